@@ -1,0 +1,9 @@
+pub mod Lists
+pub mod Triangles
+pub mod Sides
+pub mod Edges
+pub mod Rings
+pub mod Closed
+pub mod Meshes
+pub mod Limits
+pub mod Follow

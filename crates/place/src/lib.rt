@@ -1,0 +1,4 @@
+// Kinds of place.
+mod kind;
+
+pub use kind::Place;
