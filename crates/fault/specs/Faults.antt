@@ -1,5 +1,7 @@
 -- What a refusal tells: its number, its layer and its spot.
 use Prim.Native.Nat.{ℕ}
+use Rattle.std.specs.declared.option.Option.{Option}
+use Rattle.std.specs.declared.option.Option.the-variants.{Some, None}
 use Rattle.fault.specs.declared.fault.Count.{Count}
 use Rattle.fault.specs.declared.fault.Count.the-variants.{Vertices, Triangles}
 use Rattle.fault.specs.declared.fault.Fault.{Fault}
@@ -57,3 +59,8 @@ told (CodesOffTree tree) = tells 31 4 tree
 told (LoopTooShort tree) = tells 32 4 tree
 told (SideTwice triangle) = tells 33 4 triangle
 told (NoDisplacedPlace vertex) = tells 34 5 vertex
+
+-- the first of two checks that finds a fault
+abbrev pub or-else : Option Fault → Option Fault → Option Fault
+or-else (Some f) rest = Some f
+or-else None rest = rest

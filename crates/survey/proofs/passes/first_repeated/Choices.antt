@@ -1,0 +1,12 @@
+use mathlib.Core.Path.{_≡_}
+use Prim.Native.Nat.{_-_}
+use lib.ListN.{length}
+use Rattle.mesh.specs.Meshes.{vertex-total}
+use Rattle.survey.specs.Searches.{first-in}
+use Rattle.survey.specs.Checks.{repeats-at}
+use Rattle.survey.proofs.passes.first_repeated.Given as given
+
+abbrev pub Inv-loop-i : given.InvT-loop-i
+Inv-loop-i g l =
+    let m = g .S·ReadingSurface .mesh (l .s) in
+    first-in (repeats-at (m .triangles)) (l .i) (length (m .triangles) - l .i) ≡ first-in (repeats-at (m .triangles)) 0 (length (m .triangles))

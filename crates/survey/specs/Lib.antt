@@ -1,0 +1,7 @@
+pub mod Searches
+pub mod Checks
+pub mod Ringwalk
+pub mod Survey
+pub mod Tables
+pub mod Theorems
+pub mod Cases
