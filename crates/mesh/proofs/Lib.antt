@@ -2,6 +2,10 @@ pub mod Tests
 pub mod Members
 pub mod Walks
 pub mod Links
+pub mod Firsts
+pub mod Bounds
+pub mod Indexed
+pub mod Finding
 pub mod Rise
 pub mod Counting
 pub mod Following

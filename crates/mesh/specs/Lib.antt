@@ -7,3 +7,4 @@ pub mod Closed
 pub mod Meshes
 pub mod Limits
 pub mod Follow
+pub mod Searches

@@ -23,6 +23,8 @@ use Rattle.mesh.specs.Rings.{Corner, at-first, at-second, at-third, Link}
 use Rattle.mesh.specs.Closed.{Closed}
 use Rattle.mesh.specs.Limits.{between, counts-fault}
 use Rattle.mesh.proofs.Tests.{cond-true, is-false, and-true, true-and, or-false, or-left, or-right, false-or, some-inj, none-some}
+use Rattle.fault.proofs.Orders.{or-none, mapped-none}
+use Rattle.mesh.proofs.Bounds.{between-is, is-between, counts-none, none-counts}
 use Rattle.mesh.proofs.Members.{mem-cases}
 use Rattle.mesh.proofs.Links.{Turned, turned, link-side, side-link, At, link-nth, nth-link, Found, found, lowest}
 use Rattle.mesh.proofs.Counting.{closed-sided, edges-half}
@@ -30,7 +32,7 @@ use Rattle.survey.specs.Checks.{lower, has-lower, repeats, repeats-one, no-sid
 use Rattle.survey.specs.Ringwalk.{ringed, unringed-at, first-unringed}
 use Rattle.survey.specs.Survey.{shape-fault, survey-fault, edge-count}
 use Rattle.survey.specs.Theorems.{ClosedInLimits, Survey-exact, Different, Fits}
-use Rattle.survey.proofs.Firsts.{first-none, none-first, none-all, all-none}
+use Rattle.mesh.proofs.Firsts.{first-none, none-first, none-all, all-none}
 use Rattle.survey.proofs.Fitting.{AllFit, none-bad, fit-none, fit-links, closed-fit, three-vertices}
 use Rattle.survey.proofs.Walked.{ring-right, ring-left}
 
@@ -170,15 +172,6 @@ ringed-none : (V : ℕ) (ts : List Tri) → ((v : ℕ) → v < V → ringed ts v
 unfolding first-unringed
 ringed-none V ts f = none-first (unringed-at ts) 0 V (λ k h l. ap not (f k (omega arith)))
 
--- the order of the checks
-pub or-none : (o r : Option Fault) → or-else o r ≡ None → (o ≡ None) × (r ≡ None)
-or-none None r e = (refl, e)
-or-none (Some f) r e = none-some (sym e)
-
-pub mapped-none : (f : ℕ → Fault) (o : Option ℕ) → mapped f o ≡ None → o ≡ None
-mapped-none f None e = refl
-mapped-none f (Some i) e = none-some (sym e)
-
 -- what it means that each check of the shape finds nothing
 pub record Sound (V : ℕ) (ts : List Tri) : Type 0 where
   pub fit : AllFit V ts
@@ -210,24 +203,6 @@ closed-shape V ts c =
     let b = once-none ts (none-twice ts (c .once)) in
     let d = backed-none ts (c .both-ways) in
     let g = ringed-none V ts (λ v h. ring-left V ts fit (c .once) v (c .both-ways) (c .ring v h)) in rw (a, b, d, g)
-
--- the limits
-between-is : (low high n : ℕ) → between low high n ≡ true → (low ≤ n) × (n ≤ high)
-between-is low high n e = let p = and-true (leb low n) (leb n high) e in (leb-true low n (p .0), leb-true n high (p .1))
-
-is-between : (low high n : ℕ) → low ≤ n → n ≤ high → between low high n ≡ true
-is-between low high n p q = true-and (leb low n) (leb n high) (le-leb low n p) (le-leb n high q)
-
-counts-none : (V T : ℕ) → counts-fault V T ≡ None → (between 3 16384 V ≡ true) × (between 2 32768 T ≡ true)
-counts-none V T e = go (between 3 16384 V) refl (between 2 32768 T) refl e
-  where
-    go : (p : Bool) → between 3 16384 V ≡ p → (q : Bool) → between 2 32768 T ≡ q → cond p (cond q None (Some (SheetCounts Triangles))) (Some (SheetCounts Vertices)) ≡ None → (between 3 16384 V ≡ true) × (between 2 32768 T ≡ true)
-    go true i true j e = (i, j)
-    go true i false j e = none-some (sym e)
-    go false i q j e = none-some (sym e)
-
-none-counts : (V T : ℕ) → between 3 16384 V ≡ true → between 2 32768 T ≡ true → counts-fault V T ≡ None
-none-counts V T e f = cond-true (between 3 16384 V) _ _ e ∙ cond-true (between 2 32768 T) _ _ f
 
 pub survey-closed : (V : ℕ) (ts : List Tri) → survey-fault V ts ≡ None → ClosedInLimits V ts
 survey-closed V ts e =

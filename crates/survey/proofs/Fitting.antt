@@ -19,7 +19,7 @@ use Rattle.mesh.proofs.Links.{Turned, turned, At, link-nth, nth-link}
 use Rattle.survey.specs.Checks.{good-corners, bad-one, bad-at, first-bad}
 use Rattle.survey.specs.Tables.{Below}
 use Rattle.survey.specs.Theorems.{Different, Fits}
-use Rattle.survey.proofs.Firsts.{none-all, all-none}
+use Rattle.mesh.proofs.Firsts.{none-all, all-none}
 
 abbrev pub AllFit : ℕ → List Tri → Type 0
 AllFit V ts = (i : ℕ) (t : Tri) → nth ts i ≡ Some t → Fits V t

@@ -1,4 +1,3 @@
-pub mod Firsts
 pub mod Fitting
 pub mod Rounds
 pub mod Laps

@@ -25,10 +25,10 @@ use Rattle.survey.specs.Checks.{bad-one, bad-at, has-lower, repeats, repeats-o
 use Rattle.survey.specs.Ringwalk.{ringed, unringed-at, first-unringed}
 use Rattle.survey.specs.Survey.{shape-fault, survey-fault}
 use Rattle.survey.specs.Theorems.{Fits, Unfit, Repeats, Open, Ringless, Lowest, Spots-mean}
-use Rattle.survey.proofs.Firsts.{First, first-some}
+use Rattle.mesh.proofs.Firsts.{First, first-some}
 use Rattle.survey.proofs.Fitting.{good-fits, fits-good}
 use Rattle.survey.proofs.Walked.{ring-right, ring-left}
-use Rattle.survey.proofs.Exact.{true-lower, repeats-found, open-parts, found-side, side-found, or-none, Sound, sound-sides}
+use Rattle.survey.proofs.Exact.{true-lower, repeats-found, open-parts, found-side, side-found, Sound, sound-sides}
 
 -- faults of different numbers
 number-is : {f g : Fault} → _≡_ {A = Option Fault} (Some f) (Some g) → told f .number ≡ told g .number

@@ -10,7 +10,7 @@ use Rattle.std.specs.Options.{isSome}
 use Rattle.std.specs.shelf.Maps.{nth}
 use Rattle.mesh.specs.Triangles.{Tri, tri}
 use Rattle.mesh.specs.Sides.{side-of}
-use Rattle.survey.specs.Searches.{first-in}
+use Rattle.mesh.specs.Searches.{first-in}
 
 -- all three corners are below V, and differ
 abbrev pub good-corners : ℕ → Tri → Bool

@@ -1,4 +1,3 @@
-pub mod Searches
 pub mod Checks
 pub mod Ringwalk
 pub mod Survey

@@ -10,7 +10,7 @@ use Rattle.std.specs.Options.{mapped}
 use Rattle.std.specs.shelf.Maps.{nth}
 use Rattle.mesh.specs.Triangles.{Tri, tri}
 use Rattle.mesh.specs.Sides.{side-of}
-use Rattle.survey.specs.Searches.{first-in}
+use Rattle.mesh.specs.Searches.{first-in}
 
 -- read from its corner v, the triangle is (v, second-of, third-of)
 abbrev pub second-of : ℕ → Tri → ℕ

@@ -1,6 +1,6 @@
 use borrow.Author.Needs.{needs}
 use Rattle.survey.specs.Checks.{first-bad}
-use Rattle.survey.proofs.Firsts.{first-more, first-here, first-all}
+use Rattle.mesh.proofs.Firsts.{first-more, first-here, first-all}
 use Rattle.survey.proofs.passes.first_bad.Needs as need
 
 pub returns-then-bad-at : need.returns-then-bad-at

@@ -1,6 +1,6 @@
 use borrow.Author.Needs.{needs}
 use Rattle.survey.specs.Checks.{first-open}
-use Rattle.survey.proofs.Firsts.{first-more, first-here, first-all}
+use Rattle.mesh.proofs.Firsts.{first-more, first-here, first-all}
 use Rattle.survey.proofs.passes.first_open.Needs as need
 
 pub returns-then-open-at : need.returns-then-open-at

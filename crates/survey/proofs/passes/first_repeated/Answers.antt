@@ -1,6 +1,6 @@
 use borrow.Author.Needs.{needs}
 use Rattle.survey.specs.Checks.{first-repeated}
-use Rattle.survey.proofs.Firsts.{first-more, first-here, first-all}
+use Rattle.mesh.proofs.Firsts.{first-more, first-here, first-all}
 use Rattle.survey.proofs.passes.first_repeated.Needs as need
 
 pub returns-then-repeats-at : need.returns-then-repeats-at

@@ -2,7 +2,7 @@ use mathlib.Core.Path.{_≡_}
 use Prim.Native.Nat.{_-_}
 use lib.ListN.{length}
 use Rattle.mesh.specs.Meshes.{vertex-total}
-use Rattle.survey.specs.Searches.{first-in}
+use Rattle.mesh.specs.Searches.{first-in}
 use Rattle.survey.specs.Checks.{repeats-at}
 use Rattle.survey.proofs.passes.first_repeated.Given as given
 

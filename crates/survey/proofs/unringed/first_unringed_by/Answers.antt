@@ -1,6 +1,6 @@
 use borrow.Author.Needs.{needs}
 use Rattle.survey.specs.Ringwalk.{first-unringed}
-use Rattle.survey.proofs.Firsts.{first-more, first-here, first-all}
+use Rattle.mesh.proofs.Firsts.{first-more, first-here, first-all}
 use Rattle.survey.proofs.unringed.first_unringed_by.Needs as need
 
 pub returns-then-unringed-at : need.returns-then-unringed-at

@@ -1,7 +1,7 @@
 use mathlib.Core.Path.{_≡_}
 use Prim.Native.Nat.{_-_}
 use Rattle.mesh.specs.Meshes.{vertex-total}
-use Rattle.survey.specs.Searches.{first-in}
+use Rattle.mesh.specs.Searches.{first-in}
 use Rattle.survey.specs.Ringwalk.{unringed-at}
 use Rattle.survey.proofs.unringed.first_unringed_by.Given as given
 

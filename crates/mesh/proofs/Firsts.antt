@@ -9,8 +9,8 @@ use lib.ListN.{length}
 use Rattle.std.specs.declared.option.Option.{Option}
 use Rattle.std.specs.declared.option.Option.the-variants.{Some, None}
 use Rattle.std.specs.shelf.Maps.{nth}
 use Rattle.mesh.proofs.Tests.{cond-true, cond-false, none-some, some-inj, nth-below}
-use Rattle.survey.specs.Searches.{first-in}
+use Rattle.mesh.specs.Searches.{first-in}
 
 pub first-more : (p : ℕ → Bool) (i n : ℕ) → i < n → p i ≡ false → first-in p i (n - i) ≡ first-in p (i + 1) (n - (i + 1))
 first-more p i n h e = let k : n - i ≡ suc (n - (i + 1)) = omega arith in ap (first-in p i) k ∙ cond-false (p i) (Some i) (first-in p (i + 1) (n - (i + 1))) e
