@@ -2,3 +2,4 @@ pub mod Layout
 pub mod Content
 pub mod Bounds
 pub mod Opening
+pub mod Surveying

@@ -5,6 +5,9 @@ mod opening;
 mod reads;
 mod sheet;
 mod surface;
+mod surveying;
 
 pub use sheet::Sheet;
 pub use surface::SheetSurface;
+pub use surveying::survey_sheet;
+pub use surveying::survey_sheet_within;

@@ -1,5 +1,5 @@
 -- The survey finds no fault exactly if the mesh is closed and within the limits.
-use mathlib.Core.Path.{_≡_, refl, sym, ap, _∙_}
+use mathlib.Core.Path.{_≡_, refl, sym, ap, subst, _∙_}
 use mathlib.Core.Bool.{Bool, true, false, cond, not, _&&_, _||_}
 use mathlib.Core.Logic.{_⊎_, inl, inr, ⊎-elim}
 use mathlib.Core.List.{List, [], _∷_}
@@ -30,7 +30,10 @@ use Rattle.mesh.proofs.Links.{Turned, turned, link-side, side-link, At, link-nt
 use Rattle.mesh.proofs.Counting.{closed-sided, edges-half}
 use Rattle.survey.specs.Checks.{lower, has-lower, repeats, repeats-one, no-side, is-open, open-one, first-bad, first-repeated, first-open}
 use Rattle.survey.specs.Ringwalk.{ringed, unringed-at, first-unringed}
-use Rattle.survey.specs.Survey.{shape-fault, survey-fault, edge-count}
+use Rattle.std.specs.declared.result.Result.{Result}
+use Rattle.std.specs.declared.result.Result.the-variants.{Ok, Err}
+use Rattle.survey.specs.declared.counts.Counts.{Counts}
+use Rattle.survey.specs.Survey.{shape-fault, survey-fault, edge-count, counted, counted-unless, surveyed}
 use Rattle.survey.specs.Theorems.{ClosedInLimits, Survey-exact, Different, Fits}
 use Rattle.mesh.proofs.Firsts.{first-none, none-first, none-all, all-none}
 use Rattle.survey.proofs.Fitting.{AllFit, none-bad, fit-none, fit-links, closed-fit, three-vertices}
@@ -227,3 +230,26 @@ survey-exact V ts = (survey-closed V ts, closed-survey V ts)
 pub edges-half-told : (V : ℕ) (ts : List Tri) → survey-fault V ts ≡ None → (2 * edge-count ts ≡ 3 * length ts) × (length ts ≤ 32768)
 unfolding edge-count
 edges-half-told V ts e = let c = survey-closed V ts e in (edges-half ts (closed-sided V ts (c .closed)), c .few-triangles)
+
+-- the counts that the survey tells are small
+pub record SmallCounts (c : Counts) : Type 0 where
+  pub vertices : c .vertices ≤ 16384
+  pub edges : c .edges ≤ 49152
+  pub triangles : c .triangles ≤ 32768
+
+pub surveyed-small : (V : ℕ) (ts : List Tri) (c : Counts) → Ok c ≡ surveyed V ts → SmallCounts c
+surveyed-small V ts c e = go (survey-fault V ts) refl e
+  where
+    ok-is : (d : Counts) → _≡_ {A = Result Counts Fault} (Ok c) (Ok d) → c ≡ d
+    ok-is d e = cc
+
+    go : (o : Option Fault) → survey-fault V ts ≡ o → Ok c ≡ counted-unless o V ts → SmallCounts c
+    go (Some f) i e = let z : _≡_ {A = ℕ} 0 1 = cc in absurd (omega arith)
+    go None i e =
+        let h = edges-half-told V ts i in
+        let l = survey-closed V ts i in
+        let d = ok-is (counted V (edge-count ts) (length ts)) e in
+        let two = h .0 in
+        let few = h .1 in
+        let many = l .few-vertices in
+        let small : SmallCounts (counted V (edge-count ts) (length ts)) = record { vertices = many; edges = omega arith; triangles = few } in subst SmallCounts (sym d) small
