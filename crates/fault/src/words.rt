@@ -10,10 +10,16 @@ pub impl fmt::Display for Fault as FaultDisplay {
             Fault::StoreNotEmpty => f.write_str("the store is not empty"),
             Fault::StoreNotClosed => f.write_str("the store holds no closed mesh"),
             Fault::StoreNotOfJob => f.write_str("the store's counts are not the job's"),
-            Fault::VertexCapacity => f.write_str("the result has more vertices than the store can hold"),
-            Fault::TriangleCapacity => f.write_str("the result has more triangles than the store can hold"),
+            Fault::VertexCapacity => f.write_str(
+                "the result has more vertices than the store can hold",
+            ),
+            Fault::TriangleCapacity => f.write_str(
+                "the result has more triangles than the store can hold",
+            ),
             Fault::ValueTooLarge(_) => f.write_str("a mark is over 1, or a code is over 3"),
-            Fault::PartsTooLong => f.write_str("too many marks or codes, or a wrong number of displacement bytes"),
+            Fault::PartsTooLong => f.write_str(
+                "too many marks or codes, or a wrong number of displacement bytes",
+            ),
             Fault::ShortBuffer(_) => f.write_str("the output buffer is too short"),
             _ => sheet_words(self, f),
         }
@@ -25,11 +31,17 @@ fn sheet_words<W: fmt::Write>(fault: &Fault, f: &mut fmt::Formatter<W>) -> fmt::
         Fault::SheetLength => f.write_str("the sheet's length is wrong"),
         Fault::SheetVersion => f.write_str("the sheet's version is not 1"),
         Fault::SheetKind => f.write_str("the sheet's kind of place is another or unknown"),
-        Fault::SheetCounts(Count::Vertices) => f.write_str("the sheet's number of vertices is out of its limits"),
-        Fault::SheetCounts(Count::Triangles) => f.write_str("the sheet's number of triangles is out of its limits"),
+        Fault::SheetCounts(Count::Vertices) => f.write_str(
+            "the sheet's number of vertices is out of its limits",
+        ),
+        Fault::SheetCounts(Count::Triangles) => f.write_str(
+            "the sheet's number of triangles is out of its limits",
+        ),
         Fault::SheetSize => f.write_str("the sheet's size does not fit its counts"),
         Fault::NoPlace(_) => f.write_str("a vertex's bytes are no place"),
-        Fault::BadCorners(_) => f.write_str("a triangle's corner is no vertex, or two corners are equal"),
+        Fault::BadCorners(_) => f.write_str(
+            "a triangle's corner is no vertex, or two corners are equal",
+        ),
         Fault::RepeatedSide(_) => f.write_str("a triangle has a side of a lower triangle"),
         Fault::OpenSide(_) => f.write_str("a triangle has a side whose reverse is missing"),
         Fault::NoSingleRing(_) => f.write_str("the triangles at a vertex form no single ring"),

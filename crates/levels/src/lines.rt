@@ -5,10 +5,22 @@ use survey::Counts;
 
 pub fn print_usage(rt: &LibcRuntime) -> io::Result<()> {
     println!(rt, "usage: levels < FILE")?;
-    println!(rt, "Reads a base sheet of grid places from standard input and prints")?;
-    println!(rt, "  BASE V E T                     its vertices, edges and triangles, or")?;
-    println!(rt, "  REFUSED 0 NUMBER LAYER SPOT    why it is refused, and then")?;
-    println!(rt, "  TOTAL 0 0 0                    the records carried out, their edges and trees.")?;
+    println!(
+        rt,
+        "Reads a base sheet of grid places from standard input and prints"
+    )?;
+    println!(
+        rt,
+        "  BASE V E T                     its vertices, edges and triangles, or"
+    )?;
+    println!(
+        rt,
+        "  REFUSED 0 NUMBER LAYER SPOT    why it is refused, and then"
+    )?;
+    println!(
+        rt,
+        "  TOTAL 0 0 0                    the records carried out, their edges and trees."
+    )?;
     println!(rt, "What follows the sheet is left unread.")
 }
 

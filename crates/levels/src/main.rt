@@ -1,10 +1,9 @@
 // Reads a base sheet from standard input and prints what it holds.
-mod item;
 mod lines;
 
 use fault::Fault;
-use item::Item;
-use item::next_item;
+use items::Item;
+use items::next_item;
 use lines::print_base;
 use lines::print_total;
 use lines::print_usage;
@@ -17,6 +16,7 @@ use std::io::BufReader;
 
 // What the program's store holds at most.
 const VERTEX_CAPACITY: u32 = 256;
+
 const TRIANGLE_CAPACITY: u32 = 512;
 
 // An item with its length is no longer.

@@ -106,7 +106,7 @@ pub corner-there : (u v k : ℕ) (t : Tri) → corner-of u v t ≡ Some k → (y
 corner-there u v k (tri a b c) e = go (eqb a u && eqb b v) refl (eqb b u && eqb c v) refl (eqb c u && eqb a v) refl e
   where
     go : (p : Bool) → (eqb a u && eqb b v) ≡ p → (q : Bool) → (eqb b u && eqb c v) ≡ q → (r : Bool) → (eqb c u && eqb a v) ≡ r
-      → cond p (Some 0) (cond q (Some 1) (cond r (Some 2) None)) ≡ Some k → (y : ℕ) × Corner (tri a b c) u v y
+        → cond p (Some 0) (cond q (Some 1) (cond r (Some 2) None)) ≡ Some k → (y : ℕ) × Corner (tri a b c) u v y
     go true i q j r l e = let h = and-true (eqb a u) (eqb b v) i in (c, corner-is (eqb-true a u (h .0)) (eqb-true b v (h .1)) refl at-first)
     go false i true j r l e = let h = and-true (eqb b u) (eqb c v) j in (a, corner-is (eqb-true b u (h .0)) (eqb-true c v (h .1)) refl at-second)
     go false i false j true l e = let h = and-true (eqb c u) (eqb a v) l in (b, corner-is (eqb-true c u (h .0)) (eqb-true a v (h .1)) refl at-third)
@@ -119,7 +119,7 @@ there-corner {u} {v} {y} (tri a b c) d = go (eqb a u && eqb b v) refl (eqb b u &
     two p q e i = true-and (eqb p u) (eqb q v) (eq-eqb p u (sym e)) (eq-eqb q v (sym i))
 
     go : (p : Bool) → (eqb a u && eqb b v) ≡ p → (q : Bool) → (eqb b u && eqb c v) ≡ q → (r : Bool) → (eqb c u && eqb a v) ≡ r
-      → Turned a b c u v y → (k : ℕ) × (cond p (Some 0) (cond q (Some 1) (cond r (Some 2) None)) ≡ Some k)
+        → Turned a b c u v y → (k : ℕ) × (cond p (Some 0) (cond q (Some 1) (cond r (Some 2) None)) ≡ Some k)
     go true i q j r l d = (0, refl)
     go false i true j r l d = (1, refl)
     go false i false j true l d = (2, refl)
@@ -147,7 +147,7 @@ found-from u v i [] k e = none-some e
 found-from u v i (t ∷ ts) k e = go (corner-of u v t) refl e (λ e. found-from u v (i + 1) ts k e)
   where
     go : (o : Option ℕ) → corner-of u v t ≡ o → mapped (λ l. l .triangle) (lies-here i o (side-from u v (i + 1) ts)) ≡ Some k
-      → (first-from u v (i + 1) ts ≡ Some k → FoundFrom u v (i + 1) ts k) → FoundFrom u v i (t ∷ ts) k
+        → (first-from u v (i + 1) ts ≡ Some k → FoundFrom u v (i + 1) ts k) → FoundFrom u v i (t ∷ ts) k
     go (Some n) h e f = let d = some-inj e in let c = corner-there u v n t h in record { at = 0; is = omega arith; lies = record { one = t; there-is = refl; third = c .0; corner = c .1 } }
     go None h e f = let r = f e in let d = r .is in let q = r .lies in record { at = suc (r .at); is = omega arith; lies = record { one = q .one; there-is = q .there-is; third = q .third; corner = q .corner } }
 

@@ -5,9 +5,13 @@ use fault::Count;
 use fault::Fault;
 
 pub const MIN_VERTICES: u32 = 3;
+
 pub const MAX_VERTICES: u32 = 16_384;
+
 pub const MIN_TRIANGLES: u32 = 2;
+
 pub const MAX_TRIANGLES: u32 = 32_768;
+
 pub const MAX_EDGES: u32 = 49_152;
 
 // The first of the two counts that is out of its limits.

@@ -85,7 +85,7 @@ laid-right k bs m c l =
     let v = l .vertices in
     let t = l .triangles in
     let size : sheet-size (k .width) (vertices-of bs) (triangles-of bs) ≡ length bs =
-        ap (λ (n : ℕ). sheet-size (k .width) n (triangles-of bs)) v ∙ (ap (λ (n : ℕ). sheet-size (k .width) (vertex-total m) n) t ∙ l .size) in
+    ap (λ (n : ℕ). sheet-size (k .width) n (triangles-of bs)) v ∙ (ap (λ (n : ℕ). sheet-size (k .width) (vertex-total m) n) t ∙ l .size) in
     let long : 14 ≤ length bs = omega arith in
     none-or (head-fault (k .byte) bs) _
     (none-or (length-fault bs) _ (unless-true _ _ (true-and _ _ (le-leb 14 (length bs) long) (eq-eqb _ _ (l .length-field))))
@@ -128,19 +128,19 @@ module _ {P D : Type 0} (k : Kind P D) (bs : List ℕ) (m : Mesh P) (c : counts-
       let n = length-counted (vertex-in k bs) (vertices-in k bs) in
       let q = vertex-count in
       same-lists (sheet-mesh k bs .vertices) (m .vertices) (omega arith) (λ v h.
-        let low : v < vertices-in k bs = omega arith in
-        let high : v < vertex-total m = omega arith in
-        let r = read-is v high in
-        counted-there (vertex-in k bs) (vertices-in k bs) v low ∙ (ap (λ (o : Option P). Some (vertex-of (valueOr o (k .origin)) v)) (r .1) ∙ sym (r .2)))
+      let low : v < vertices-in k bs = omega arith in
+      let high : v < vertex-total m = omega arith in
+      let r = read-is v high in
+      counted-there (vertex-in k bs) (vertices-in k bs) v low ∙ (ap (λ (o : Option P). Some (vertex-of (valueOr o (k .origin)) v)) (r .1) ∙ sym (r .2)))
 
   triangles-same : sheet-mesh k bs .triangles ≡ m .triangles
   triangles-same =
       let n = length-counted (triangle-in (k .width) bs) (triangles-in k bs) in
       let q = triangle-count in
       same-lists (sheet-mesh k bs .triangles) (m .triangles) (omega arith) (λ t h.
-        let low : t < triangles-in k bs = omega arith in
-        let high : t < triangle-total m = omega arith in
-        counted-there (triangle-in (k .width) bs) (triangles-in k bs) t low ∙ (ap (λ (x : ℕ). Some (triangle-from bs (triangle-offset (k .width) x t))) (l .vertices) ∙ sym (l .triangle t high)))
+      let low : t < triangles-in k bs = omega arith in
+      let high : t < triangle-total m = omega arith in
+      counted-there (triangle-in (k .width) bs) (triangles-in k bs) t low ∙ (ap (λ (x : ℕ). Some (triangle-from bs (triangle-offset (k .width) x t))) (l .vertices) ∙ sym (l .triangle t high)))
 
   pub no-fault : sheet-fault k bs ≡ None
   no-fault = none-or (layout-fault k bs) (place-fault k bs) fine (read-places k bs (λ v h.

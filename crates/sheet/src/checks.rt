@@ -66,7 +66,11 @@ pub(crate) fn layout_fault<P: Place>(bytes: &[u8]) -> Option<Fault>
 }
 
 // Where the layout is right: vertices, then triangles, against a store's capacities.
-pub(crate) fn capacity_fault(bytes: &[u8], vertex_capacity: u32, triangle_capacity: u32) -> Option<Fault>
+pub(crate) fn capacity_fault(
+    bytes: &[u8],
+    vertex_capacity: u32,
+    triangle_capacity: u32,
+) -> Option<Fault>
     requires { ⌜ 14 ≤ length (now bytes) ⌝ }
     ensures { λ r. ⌜ r ≡ capacity-fault «vertex_capacity» «triangle_capacity» (now (bytes .entry)) ⌝ }
 {

@@ -40,7 +40,9 @@ fn has_side<P: Place>(bytes: &[u8], vertices: u32, t: u32, u: u32, v: u32) -> bo
     requires { ⌜ vertices ≡ vertices-in (P·Place .kind) (now bytes) ⌝ }
     ensures { λ r. ⌜ r ≡ isSome (corner-of u v (triangle-in (P·Place .kind .width) (now (bytes .entry)) t)) ⌝ }
 {
-    triangle_in::<P>(bytes, vertices, t).side_corner(u, v).is_some()
+    triangle_in::<P>(bytes, vertices, t)
+        .side_corner(u, v)
+        .is_some()
 }
 
 pub impl<'a, P: Place> ReadingSurface for Sheet<'a, P> as SheetSurface {

@@ -8,12 +8,7 @@ use mesh::Triangle;
 fn good_corners(vertices: u32, t: Triangle) -> bool
     ensures { λ r. ⌜ r ≡ good-corners vertices (tri-of t) ⌝ }
 {
-    t.a < vertices
-        && t.b < vertices
-        && t.c < vertices
-        && t.a != t.b
-        && t.b != t.c
-        && t.c != t.a
+    t.a < vertices && t.b < vertices && t.c < vertices && t.a != t.b && t.b != t.c && t.c != t.a
 }
 
 pub(crate) fn bad_at<S: ReadingSurface>(s: &S, vertices: u32, i: u32) -> bool

@@ -14,7 +14,22 @@ fn four_bytes(a: i32, b: i32, c: i32, d: i32) -> [u8; 16]
     let [c0, c1, c2, c3] = c.to_be_bytes();
     let [d0, d1, d2, d3] = d.to_be_bytes();
     [
-        a0, a1, a2, a3, b0, b1, b2, b3, c0, c1, c2, c3, d0, d1, d2, d3,
+        a0,
+        a1,
+        a2,
+        a3,
+        b0,
+        b1,
+        b2,
+        b3,
+        c0,
+        c1,
+        c2,
+        c3,
+        d0,
+        d1,
+        d2,
+        d3,
     ]
 }
 

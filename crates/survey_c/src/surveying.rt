@@ -14,11 +14,7 @@ use survey::Counts;
 fn kind_of(bytes: &[u8]) -> u8
     ensures { λ r. ⌜ r ≡ getD (now (bytes .entry)) 5 0 ⌝ }
 {
-    if bytes.len() > 5 {
-        bytes[5]
-    } else {
-        0
-    }
+    if bytes.len() > 5 { bytes[5] } else { 0 }
 }
 
 // By the sheet's kind byte: 2 for floats, and the grid refuses what is not its own.

@@ -1,6 +1,6 @@
 use Prim.Native.Nat.{_-_, _≤_}
 use lib.ListN.{length}
-use Rattle.levels.proofs.item.fill.Given as given
+use Rattle.items.proofs.item.fill.Given as given
 
 abbrev pub Inv-loop-at : given.InvT-loop-at
 Inv-loop-at g l = l .at ≤ length (l .buffer)

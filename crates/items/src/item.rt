@@ -2,7 +2,7 @@
 ghost use Prim.Native.Nat.{_≤_};
 ghost use lib.ListN.{length};
 ghost use Rattle.std.specs.Vec.{made};
-ghost use Rattle.levels.specs.Items.{Within};
+ghost use Rattle.items.specs.Items.{Within};
 use std::io;
 use std::io::Read;
 
