@@ -5,7 +5,7 @@ use Rattle.std.specs.declared.option.Option.the-variants.{Some, None}
 use Rattle.fault.specs.declared.fault.Count.{Count}
 use Rattle.fault.specs.declared.fault.Count.the-variants.{Vertices, Triangles}
 use Rattle.fault.specs.declared.fault.Fault.{Fault}
-use Rattle.fault.specs.declared.fault.Fault.the-variants.{ShortWorkTable, StoreNotEmpty, StoreNotClosed, StoreNotOfJob, VertexCapacity, TriangleCapacity, ValueTooLarge, PartsTooLong, ShortBuffer}
+use Rattle.fault.specs.declared.fault.Fault.the-variants.{ShortWorkTable, StoreNotEmpty, StoreNotClosed, StoreNotOfJob, VertexCapacity, TriangleCapacity, ValueTooLarge, PartLengths, ShortBuffer}
 use Rattle.fault.specs.declared.fault.Fault.the-variants.{SheetLength, SheetVersion, SheetKind, SheetCounts, SheetSize, NoPlace, BadCorners, RepeatedSide, OpenSide, NoSingleRing}
 use Rattle.fault.specs.declared.fault.Fault.the-variants.{RecordLength, RecordVersion, RecordKind, MarksCutShort, SpareMarkBit, NoMark, MarkClosesLoop, SingleEdgeTree, CodeCount, RecordSize, SpareCodeBit}
 use Rattle.fault.specs.declared.fault.Fault.the-variants.{CodesOffTree, LoopTooShort, SideTwice, NoDisplacedPlace}
@@ -32,7 +32,7 @@ told StoreNotOfJob = tells 4 1 0
 told VertexCapacity = tells 5 1 0
 told TriangleCapacity = tells 6 1 0
 told (ValueTooLarge index) = tells 7 1 index
-told PartsTooLong = tells 8 1 0
+told PartLengths = tells 8 1 0
 told (ShortBuffer needed) = tells 9 1 needed
 told SheetLength = tells 10 2 0
 told SheetVersion = tells 11 2 4

@@ -19,7 +19,7 @@ pub enum Fault {
     TriangleCapacity,
     // The index of the mark or of the code.
     ValueTooLarge(u32),
-    PartsTooLong,
+    PartLengths,
     // The bytes needed.
     ShortBuffer(u32),
     // Of a sheet's bytes.

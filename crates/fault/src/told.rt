@@ -17,7 +17,7 @@ impl Fault {
             Fault::VertexCapacity => 5,
             Fault::TriangleCapacity => 6,
             Fault::ValueTooLarge(_) => 7,
-            Fault::PartsTooLong => 8,
+            Fault::PartLengths => 8,
             Fault::ShortBuffer(_) => 9,
             Fault::SheetLength => 10,
             Fault::SheetVersion => 11,

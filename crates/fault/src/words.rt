@@ -17,7 +17,7 @@ pub impl fmt::Display for Fault as FaultDisplay {
                 "the result has more triangles than the store can hold",
             ),
             Fault::ValueTooLarge(_) => f.write_str("a mark is over 1, or a code is over 3"),
-            Fault::PartsTooLong => f.write_str(
+            Fault::PartLengths => f.write_str(
                 "too many marks or codes, or a wrong number of displacement bytes",
             ),
             Fault::ShortBuffer(_) => f.write_str("the output buffer is too short"),

@@ -1,9 +1,13 @@
--- A whole item has its length, and lies within the buffer.
-use Prim.Native.Nat.{ℕ, _≤_}
+-- A whole item has the length that its first four bytes tell, and lies within the buffer.
+use mathlib.Core.Path.{_≡_}
+use mathlib.Core.List.{List}
+use Prim.Native.Nat.{ℕ, _+_, _≤_}
+use lib.ListN.{length}
+use Rattle.place.specs.Words.{word}
 use Rattle.items.specs.declared.item.Item.{Item}
 use Rattle.items.specs.declared.item.Item.the-variants.{Ended, Broken, Whole}
 
-abbrev pub Within : ℕ → Item → Type 0
-Within n Ended = Unit {0}
-Within n Broken = Unit {0}
-Within n (Whole size) = (4 ≤ size) × (size ≤ n)
+abbrev pub Within : List ℕ → Item → Type 0
+Within buffer Ended = Unit {0}
+Within buffer Broken = Unit {0}
+Within buffer (Whole size) = (size ≡ word buffer 0 + 4) × (size ≤ length buffer)

@@ -31,7 +31,7 @@ fn fill<R: Read>(input: &mut R, buffer: &mut [u8]) -> io::Result<usize>
 }
 
 pub fn next_item<R: Read>(input: &mut R, buffer: &mut [u8]) -> io::Result<Item>
-    ensures { λ r. ⌜ made r (λ i. Within (length (now (buffer .exit))) i) ⌝ }
+    ensures { λ r. ⌜ made r (λ i. Within (now (buffer .exit)) i) ⌝ }
 {
     if buffer.len() < 4 {
         return Ok(Item::Broken);

@@ -4,7 +4,6 @@ mod surface;
 mod theorems;
 mod triangle;
 
-pub use limits::MAX_EDGES;
 pub use limits::MAX_TRIANGLES;
 pub use limits::MAX_VERTICES;
 pub use limits::MIN_TRIANGLES;
@@ -14,4 +13,5 @@ pub use surface::ReadingSurface;
 pub use theorems::edges_counted;
 pub use theorems::edges_listed;
 pub use theorems::follow_ends;
+pub use theorems::sides_found;
 pub use triangle::Triangle;

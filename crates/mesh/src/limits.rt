@@ -12,8 +12,6 @@ pub const MIN_TRIANGLES: u32 = 2;
 
 pub const MAX_TRIANGLES: u32 = 32_768;
 
-pub const MAX_EDGES: u32 = 49_152;
-
 // The first of the two counts that is out of its limits.
 pub fn count_fault(vertices: u32, triangles: u32) -> Option<Fault>
     ensures { λ r. ⌜ r ≡ counts-fault vertices triangles ⌝ }

@@ -3,7 +3,8 @@ ghost use mathlib.Core.Path.{_≡_};
 ghost use Rattle.mesh.specs.Triangles.{tri-of};
 ghost use Rattle.mesh.specs.Sides.{corner-of};
 
-// Three different vertices in order; (a, b, c) has the directed sides a→b, b→c and c→a.
+// Three vertex numbers in order; (a, b, c) has the directed sides a→b, b→c and c→a.
+// In a mesh they are three different vertices; the bytes of a sheet may hold any numbers.
 #[derive(Clone, Copy, PartialEq, Eq, Debug)]
 pub struct Triangle {
     pub a: u32,

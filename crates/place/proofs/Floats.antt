@@ -69,6 +69,17 @@ reads-front bs =
 reads-short : (bs : List ℕ) → length bs < 12 → float-read bs ≡ None
 reads-short bs h = ap (λ b. cond b None (float-place (float-at bs 0) (float-at bs 4) (float-at bs 8))) (lt-ltb _ _ h)
 
+displacement-reads-front : (bs : List ℕ) → float-read-displacement bs ≡ float-read-displacement (take 12 bs)
+displacement-reads-front bs =
+    let x = ap (ofBits binary32) (word-front 12 bs 0 (omega arith)) in
+    let y = ap (ofBits binary32) (word-front 12 bs 4 (omega arith)) in
+    let z = ap (ofBits binary32) (word-front 12 bs 8 (omega arith)) in
+    let short = front-length 12 bs in
+    sym (λ i. cond (short i) None (Some (float-displacement (x i) (y i) (z i))))
+
+displacement-reads-short : (bs : List ℕ) → length bs < 12 → float-read-displacement bs ≡ None
+displacement-reads-short bs h = ap (λ b. cond b None (Some (float-displacement (float-at bs 0) (float-at bs 4) (float-at bs 8)))) (lt-ltb _ _ h)
+
 displacement-reads : (bs : List ℕ) → 12 ≤ length bs → (d : FloatDisplacement) × (float-read-displacement bs ≡ Some d)
 displacement-reads bs h = (_, ap (λ b. cond b None (Some (float-displacement (float-at bs 0) (float-at bs 4) (float-at bs 8)))) (le-ltb _ _ h))
 
@@ -81,6 +92,8 @@ float-lawful = record {
   narrow = omega arith;
   displacement-narrow = omega arith;
   reads-front = reads-front;
+  displacement-reads-front = displacement-reads-front;
   reads-short = reads-short;
+  displacement-reads-short = displacement-reads-short;
   displacement-reads = displacement-reads;
 }

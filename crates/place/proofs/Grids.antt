@@ -61,6 +61,17 @@ reads-front bs =
 reads-short : (bs : List ℕ) → length bs < 6 → grid-read bs ≡ None
 reads-short bs h = ap (λ b. cond b None (Some (grid (half bs 0) (half bs 2) (half bs 4)))) (lt-ltb _ _ h)
 
+displacement-reads-front : (bs : List ℕ) → grid-read-displacement bs ≡ grid-read-displacement (take 6 bs)
+displacement-reads-front bs =
+    let x = half-front 6 bs 0 (omega arith) in
+    let y = half-front 6 bs 2 (omega arith) in
+    let z = half-front 6 bs 4 (omega arith) in
+    let short = front-length 6 bs in
+    sym (λ i. cond (short i) None (Some (grid-displacement (toZ w16 (x i)) (toZ w16 (y i)) (toZ w16 (z i)))))
+
+displacement-reads-short : (bs : List ℕ) → length bs < 6 → grid-read-displacement bs ≡ None
+displacement-reads-short bs h = ap (λ b. cond b None (Some (grid-displacement (toZ w16 (half bs 0)) (toZ w16 (half bs 2)) (toZ w16 (half bs 4))))) (lt-ltb _ _ h)
+
 displacement-reads : (bs : List ℕ) → 6 ≤ length bs → (d : GridDisplacement) × (grid-read-displacement bs ≡ Some d)
 displacement-reads bs h = (_, ap (λ b. cond b None (Some (grid-displacement (toZ w16 (half bs 0)) (toZ w16 (half bs 2)) (toZ w16 (half bs 4))))) (le-ltb _ _ h))
 
@@ -73,6 +84,8 @@ grid-lawful = record {
   narrow = omega arith;
   displacement-narrow = omega arith;
   reads-front = reads-front;
+  displacement-reads-front = displacement-reads-front;
   reads-short = reads-short;
+  displacement-reads-short = displacement-reads-short;
   displacement-reads = displacement-reads;
 }

@@ -36,7 +36,11 @@ pub record Lawful {P D : Type 0} (k : Kind P D) : Type 0 where
   pub displacement-long : (d : D) → length (k .displacement-bytes d) ≡ k .displacement-width
   pub narrow : k .width ≤ 12
   pub displacement-narrow : k .displacement-width ≤ 12
-  -- reading looks at the first bytes alone, and a displacement reads wherever they are there
+  -- reading looks at the first bytes alone
   pub reads-front : (bs : List ℕ) → k .read bs ≡ k .read (take (k .width) bs)
+  pub displacement-reads-front : (bs : List ℕ) → k .read-displacement bs ≡ k .read-displacement (take (k .displacement-width) bs)
+  -- too few bytes are none
   pub reads-short : (bs : List ℕ) → length bs < k .width → k .read bs ≡ None
+  pub displacement-reads-short : (bs : List ℕ) → length bs < k .displacement-width → k .read-displacement bs ≡ None
+  -- a displacement reads wherever its bytes are there
   pub displacement-reads : (bs : List ℕ) → k .displacement-width ≤ length bs → (d : D) × (k .read-displacement bs ≡ Some d)

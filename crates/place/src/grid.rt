@@ -31,7 +31,7 @@ fn displaced_coordinate(from: u16, by: i16) -> Option<u16>
     }
 }
 
-pub impl Place for Grid as GridPlace {
+pub impl Place for Grid as GridKind {
     type Displacement = GridDisplacement;
 
     const KIND: u8 = 1;

@@ -11,7 +11,7 @@ pub use float::FloatKind;
 pub use float_place::FloatPlace;
 pub use grid::Grid;
 pub use grid::GridDisplacement;
-pub use grid::GridPlace;
+pub use grid::GridKind;
 pub use kind::Place;
 pub use sums::float_refusals;
 pub use sums::float_sums;

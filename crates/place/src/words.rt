@@ -5,7 +5,7 @@ ghost use lib.ListN.{length};
 ghost use Rattle.place.specs.Words.{half, word};
 
 // The number that the two bytes from `i` on stand for.
-pub fn half_at(from: &[u8], i: usize) -> u16
+pub(crate) fn half_at(from: &[u8], i: usize) -> u16
     requires { ⌜ i + 2 ≤ length (now from) ⌝ }
     ensures { λ r. ⌜ r ≡ half (now (from .entry)) i ⌝ }
 {
@@ -13,7 +13,7 @@ pub fn half_at(from: &[u8], i: usize) -> u16
 }
 
 // The number that the four bytes from `i` on stand for.
-pub fn word_at(from: &[u8], i: usize) -> u32
+pub(crate) fn word_at(from: &[u8], i: usize) -> u32
     requires { ⌜ i + 4 ≤ length (now from) ⌝ }
     ensures { λ r. ⌜ r ≡ word (now (from .entry)) i ⌝ }
 {

@@ -151,5 +151,14 @@ module _ {P D : Type 0} (k : Kind P D) (bs : List ℕ) (m : Mesh P) (c : counts-
   pub same-mesh : sheet-mesh k bs ≡ m
   same-mesh = ap (λ ts. mesh-of ts (sheet-mesh k bs .vertices)) triangles-same ∙ ap (mesh-of (m .triangles)) vertices-same
 
+-- and its counts are in their limits
+counts-fine : {P D : Type 0} (k : Kind P D) (bs : List ℕ) → sheet-fault k bs ≡ None → counts-fault (vertex-total (sheet-mesh k bs)) (triangle-total (sheet-mesh k bs)) ≡ None
+counts-fine k bs e =
+    let a = or-none (layout-fault k bs) _ e in
+    let b = or-none (head-fault (k .byte) bs) _ (a .0) in
+    let c = or-none (counts-fault (vertices-of bs) (triangles-of bs)) _ (b .1) in
+    let l = laid-out k bs e in
+    ap (λ (n : ℕ). counts-fault n (triangle-total (sheet-mesh k bs))) (sym (l .vertices)) ∙ (ap (counts-fault (vertices-of bs)) (sym (l .triangles)) ∙ c .0)
+
 pub sheet-exact : {P D : Type 0} (k : Kind P D) → Sheet-exact k
-sheet-exact k = (laid-out k, λ bs m c l. (no-fault k bs m c l, same-mesh k bs m c l))
+sheet-exact k = (λ bs e. (laid-out k bs e, counts-fine k bs e), λ bs m c l. (no-fault k bs m c l, same-mesh k bs m c l))

@@ -1,4 +1,4 @@
--- What a right layout says, and that a sheet's mesh is within the limits.
+-- Proof that the mesh of a sheet is within the limits. It stands here since the surface shows it by a ghost member, which may not cite proofs/.
 use mathlib.Core.Path.{_≡_, refl, sym, ap, _∙_}
 use mathlib.Core.Bool.{Bool, true, false, cond, _&&_}
 use mathlib.Core.List.{List, map}
@@ -22,7 +22,7 @@ use Rattle.mesh.proofs.Indexed.{length-counted}
 use Rattle.sheet.specs.Layout.{vertices-of, triangles-of, sheet-size, unless, length-fault, version-fault, kind-fault, head-fault, size-fault, layout-fault}
 use Rattle.sheet.specs.Content.{triangle-in, vertex-in, count-unless, vertices-in, triangles-in, sheet-mesh}
 
--- the layout of a sheet is right
+-- what follows from a right layout
 pub record Right {P D : Type 0} (k : Kind P D) (bs : List ℕ) : Type 0 where
   pub long : 14 ≤ length bs
   pub length-field : word bs 0 + 4 ≡ length bs

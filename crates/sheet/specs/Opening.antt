@@ -27,5 +27,5 @@ opened (Some f) bs = Err f
 -- a sheet has no fault exactly if its bytes are laid out as those of a mesh with counts in their limits, and it means that mesh
 abbrev pub Sheet-exact : {P D : Type 0} → Kind P D → Type 0
 Sheet-exact {P} {D} k =
-    ((bs : List ℕ) → sheet-fault k bs ≡ None → LaidOut k bs (sheet-mesh k bs))
+    ((bs : List ℕ) → sheet-fault k bs ≡ None → LaidOut k bs (sheet-mesh k bs) × (counts-fault (vertex-total (sheet-mesh k bs)) (triangle-total (sheet-mesh k bs)) ≡ None))
     × ((bs : List ℕ) (m : Mesh P) → counts-fault (vertex-total m) (triangle-total m) ≡ None → LaidOut k bs m → (sheet-fault k bs ≡ None) × (sheet-mesh k bs ≡ m))

@@ -10,22 +10,22 @@ use place::Place;
 
 // The counts of a sheet.
 #[derive(Clone, Copy)]
-pub(crate) struct Counted {
+pub(crate) struct Extent {
     pub(crate) vertices: u32,
     pub(crate) triangles: u32,
 }
 
 // The counts of a sheet whose layout is right; none at all of other bytes.
-pub(crate) fn extent<P: Place>(bytes: &[u8]) -> Counted
+pub(crate) fn counts_of<P: Place>(bytes: &[u8]) -> Extent
     ensures vertices { λ r. ⌜ r .vertices ≡ vertices-in (P·Place .kind) (now (bytes .entry)) ⌝ }
     ensures triangles { λ r. ⌜ r .triangles ≡ triangles-in (P·Place .kind) (now (bytes .entry)) ⌝ }
 {
     match layout_fault::<P>(bytes) {
-        Some(_) => Counted {
+        Some(_) => Extent {
             vertices: 0,
             triangles: 0,
         },
-        None => Counted {
+        None => Extent {
             vertices: word_at(bytes, 6),
             triangles: word_at(bytes, 10),
         },

@@ -5,7 +5,7 @@ ghost use Rattle.sheet.specs.Content.{vertices-in, no-place, place-fault, shee
 ghost use Rattle.sheet.specs.Opening.{held-by, opened};
 use crate::checks::capacity_fault;
 use crate::checks::layout_fault;
-use crate::extent::extent;
+use crate::extent::counts_of;
 use crate::sheet::Sheet;
 use crate::surface::place_in;
 use fault::Fault;
@@ -23,7 +23,7 @@ fn no_place<P: Place>(bytes: &[u8], v: u32) -> bool
 fn place_fault<P: Place>(bytes: &[u8]) -> Option<Fault>
     ensures { λ r. ⌜ r ≡ place-fault (P·Place .kind) (now (bytes .entry)) ⌝ }
 {
-    for v in 0..extent::<P>(bytes).vertices {
+    for v in 0..counts_of::<P>(bytes).vertices {
         if no_place::<P>(bytes, v) {
             return Some(Fault::NoPlace(v));
         }

@@ -9,7 +9,7 @@ ghost use Rattle.mesh.specs.Sides.{corner-of};
 ghost use Rattle.sheet.specs.Content.{triangle-in, place-read, vertices-in, triangles-in, sheet-mesh};
 ghost use Rattle.sheet.specs.Bounds.{sheet-limited};
 use crate::checks::HEAD;
-use crate::extent::extent;
+use crate::extent::counts_of;
 use crate::reads::triangle_from;
 use crate::sheet::Sheet;
 use mesh::ReadingSurface;
@@ -53,15 +53,15 @@ pub impl<'a, P: Place> ReadingSurface for Sheet<'a, P> as SheetSurface {
     ghost limited = { λ s. sheet-limited (P·Place .kind) (now (s .bytes)) };
 
     fn vertex_count(&self) -> u32 {
-        extent::<P>(self.bytes).vertices
+        counts_of::<P>(self.bytes).vertices
     }
 
     fn triangle_count(&self) -> u32 {
-        extent::<P>(self.bytes).triangles
+        counts_of::<P>(self.bytes).triangles
     }
 
     fn triangle(&self, t: u32) -> Option<Triangle> {
-        let counted = extent::<P>(self.bytes);
+        let counted = counts_of::<P>(self.bytes);
         if t >= counted.triangles {
             return None;
         }
@@ -69,7 +69,7 @@ pub impl<'a, P: Place> ReadingSurface for Sheet<'a, P> as SheetSurface {
     }
 
     fn place(&self, v: u32) -> Option<P> {
-        if v >= extent::<P>(self.bytes).vertices {
+        if v >= counts_of::<P>(self.bytes).vertices {
             return None;
         }
         match place_in::<P>(self.bytes, v) {
@@ -79,7 +79,7 @@ pub impl<'a, P: Place> ReadingSurface for Sheet<'a, P> as SheetSurface {
     }
 
     fn parent(&self, v: u32) -> Option<u32> {
-        if v < extent::<P>(self.bytes).vertices {
+        if v < counts_of::<P>(self.bytes).vertices {
             Some(v)
         } else {
             None
@@ -87,7 +87,7 @@ pub impl<'a, P: Place> ReadingSurface for Sheet<'a, P> as SheetSurface {
     }
 
     fn side(&self, u: u32, v: u32) -> Option<u32> {
-        let counted = extent::<P>(self.bytes);
+        let counted = counts_of::<P>(self.bytes);
         for t in 0..counted.triangles {
             if has_side::<P>(self.bytes, counted.vertices, t, u, v) {
                 return Some(t);

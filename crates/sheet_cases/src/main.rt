@@ -8,7 +8,7 @@ use outcome::OutcomeDisplay;
 use place::FloatKind;
 use place::FloatPlace;
 use place::Grid;
-use place::GridPlace;
+use place::GridKind;
 use sheet::survey_sheet;
 use sheet::survey_sheet_within;
 use std::io;

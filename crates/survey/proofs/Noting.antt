@@ -15,7 +15,7 @@ use Rattle.std.specs.declared.option.Option.the-variants.{Some, None}
 use Rattle.std.specs.shelf.Maps.{nth}
 use Rattle.mesh.specs.Triangles.{Tri, tri}
 use Rattle.survey.specs.Ringwalk.{corners-in, corners-one, corners-to, touches, last-one, last-to}
-use Rattle.survey.specs.Tables.{Below, Small, Zero, Counted, Seen, Added, Placed}
+use Rattle.survey.specs.Tables.{Below, Small, Zero, Counted, Seen, Added, Noted}
 
 abbrev bump : List ℕ → ℕ → List ℕ
 bump xs u = set xs u (getD xs u 0 + 1)
@@ -78,8 +78,8 @@ three false true false i x = refl
 three false false true i x = refl
 three false false false i x = refl
 
-pub placed-three : (xs : List ℕ) (a b c : ℕ) (i : ℕ) → length xs ≡ 16384 → Below 16384 (tri a b c) → Placed xs (tri a b c) i (set (set (set xs a i) b i) c i)
-placed-three xs a b c i e d = record {
+pub noted-three : (xs : List ℕ) (a b c : ℕ) (i : ℕ) → length xs ≡ 16384 → Below 16384 (tri a b c) → Noted xs (tri a b c) i (set (set (set xs a i) b i) c i)
+noted-three xs a b c i e d = record {
   each = λ v h.
       let l = length-set xs a i in
       let m = length-set (set xs a i) b i in
@@ -92,7 +92,7 @@ placed-three xs a b c i e d = record {
 last-more : (ts : List Tri) (v i : ℕ) (t : Tri) → nth ts i ≡ Some t → last-to ts v (i + 1) ≡ cond (touches v t) i (last-to ts v i)
 last-more ts v i t e = ap (last-to ts v) (add-one i) ∙ ap (last-one v i (last-to ts v i)) e
 
-pub seen-more : (ts : List Tri) (i : ℕ) (t : Tri) (xs ys : List ℕ) → Seen ts i xs → nth ts i ≡ Some t → Placed xs t i ys → Seen ts (i + 1) ys
+pub seen-more : (ts : List Tri) (i : ℕ) (t : Tri) (xs ys : List ℕ) → Seen ts i xs → nth ts i ≡ Some t → Noted xs t i ys → Seen ts (i + 1) ys
 seen-more ts i t xs ys c e a = record { each = λ v k. a .each v k ∙ (ap (cond (touches v t) i) (c .each v k) ∙ sym (last-more ts v i t e)) }
 
 pub counted-none : (ts : List Tri) (xs : List ℕ) → Zero xs → Counted ts 0 xs

@@ -1,9 +1,10 @@
 -- Worked cases, proved by computation.
 use mathlib.Core.Path.{_≡_}
 use mathlib.Core.List.{List, [], _∷_}
-use Rattle.std.specs.declared.option.Option.the-variants.{Some, None}
+use Rattle.std.specs.declared.option.Option.the-variants.{Some}
 use Rattle.std.specs.declared.result.Result.the-variants.{Ok}
-use Rattle.fault.specs.declared.fault.Fault.the-variants.{NoSingleRing}
+use Rattle.std.specs.Options.{mapped}
+use Rattle.fault.specs.Faults.{told, tells}
 use Rattle.mesh.specs.Triangles.{Tri, tri}
 use Rattle.mesh.specs.Closed.{Closed}
 use Rattle.survey.specs.Survey.{survey-fault, surveyed, counted}
@@ -25,4 +26,4 @@ pub record Survey-cases : Type 0 where
   pub pair-counted : surveyed 3 pair ≡ Ok (counted 3 3 2)
   pub block-closed : Closed 4 block
   pub block-counted : surveyed 4 block ≡ Ok (counted 4 6 4)
-  pub blocks-refused : survey-fault 7 two-blocks ≡ Some (NoSingleRing 0)
+  pub blocks-refused : mapped told (survey-fault 7 two-blocks) ≡ Some (tells 19 3 0)

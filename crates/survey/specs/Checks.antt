@@ -23,11 +23,12 @@ bad-one V (Some t) = not (good-corners V t)
 abbrev pub bad-at : ℕ → List Tri → ℕ → Bool
 bad-at V ts i = bad-one V (nth ts i)
 
--- a triangle lower than i has the side u→v
+-- a triangle was found, and it is lower than i
 abbrev pub lower : ℕ → Option ℕ → Bool
 lower i None = false
 lower i (Some j) = ltb j i
 
+-- a triangle lower than i has the side u→v
 abbrev pub has-lower : List Tri → ℕ → ℕ → ℕ → Bool
 has-lower ts i u v = lower i (side-of ts u v)
 

@@ -19,11 +19,12 @@ second-of v (tri a b c) = cond (eqb a v) b (cond (eqb b v) c a)
 abbrev pub third-of : ℕ → Tri → ℕ
 third-of v (tri a b c) = cond (eqb a v) c (cond (eqb b v) a b)
 
--- the ring step from the side v→x: the third corner of the triangle with that side
+-- the third corner of triangle i, read from v
 abbrev pub third-at : List Tri → ℕ → Option ℕ → Option ℕ
 third-at ts v None = None
 third-at ts v (Some i) = mapped (third-of v) (nth ts i)
 
+-- the ring step from the side v→x: the third corner of the triangle with that side
 abbrev pub ring-step : List Tri → ℕ → ℕ → Option ℕ
 ring-step ts v x = third-at ts v (side-of ts v x)
 
@@ -32,7 +33,7 @@ abbrev pub comes-round : List Tri → ℕ → ℕ → ℕ → ℕ → Bool
 comes-round ts v a zero x = eqb x a
 comes-round ts v a (suc n) x = cond (eqb x a) false (elim (ring-step ts v x) [ Some y ↦ comes-round ts v a n y | None ↦ false ])
 
--- how many corners of the first n triangles are v
+-- how many corners of a triangle are v
 abbrev pub corners-in : ℕ → Tri → ℕ
 corners-in v (tri a b c) = cond (eqb a v) 1 0 + cond (eqb b v) 1 0 + cond (eqb c v) 1 0
 
@@ -40,11 +41,12 @@ abbrev pub corners-one : ℕ → Option Tri → ℕ
 corners-one v None = 0
 corners-one v (Some t) = corners-in v t
 
+-- how many corners of the first n triangles are v
 abbrev pub corners-to : List Tri → ℕ → ℕ → ℕ
 corners-to ts v zero = 0
 corners-to ts v (suc n) = corners-to ts v n + corners-one v (nth ts n)
 
--- the last of the first n triangles that has the corner v
+-- the triangle has the corner v
 abbrev pub touches : ℕ → Tri → Bool
 touches v (tri a b c) = eqb a v || (eqb b v || eqb c v)
 
@@ -52,6 +54,7 @@ abbrev pub last-one : ℕ → ℕ → ℕ → Option Tri → ℕ
 last-one v n l None = l
 last-one v n l (Some t) = cond (touches v t) n l
 
+-- the last of the first n triangles that has the corner v; 0 if none has
 abbrev pub last-to : List Tri → ℕ → ℕ → ℕ
 last-to ts v zero = 0
 last-to ts v (suc n) = last-one v n (last-to ts v n) (nth ts n)

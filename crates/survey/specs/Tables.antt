@@ -31,5 +31,5 @@ pub record Added (xs : List ℕ) (t : Tri) (ys : List ℕ) : Type 0 where
   pub each : (v : ℕ) → v < 16384 → getD ys v 0 ≡ getD xs v 0 + corners-in v t
 
 -- ys is xs with the triangle i noted at its corners
-pub record Placed (xs : List ℕ) (t : Tri) (i : ℕ) (ys : List ℕ) : Type 0 where
+pub record Noted (xs : List ℕ) (t : Tri) (i : ℕ) (ys : List ℕ) : Type 0 where
   pub each : (v : ℕ) → v < 16384 → getD ys v 0 ≡ cond (touches v t) i (getD xs v 0)

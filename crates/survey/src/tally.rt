@@ -6,7 +6,7 @@ ghost use Rattle.std.specs.declared.option.Option.the-variants.{None};
 ghost use Rattle.mesh.specs.Triangles.{tri-of};
 ghost use Rattle.mesh.specs.Meshes.{vertex-total, triangle-total};
 ghost use Rattle.survey.specs.Checks.{first-bad};
-ghost use Rattle.survey.specs.Tables.{Below, Small, Zero, Counted, Seen, Added, Placed};
+ghost use Rattle.survey.specs.Tables.{Below, Small, Zero, Counted, Seen, Added, Noted};
 use mesh::ReadingSurface;
 use mesh::Triangle;
 
@@ -36,7 +36,7 @@ fn bump_all(xs: &mut [u32; 16384], t: Triangle)
 
 fn put_all(xs: &mut [u32; 16384], t: Triangle, i: u32)
     requires { ⌜ Below 16384 (tri-of t) ⌝ }
-    ensures { λ _. ⌜ Placed (now (xs .entry)) (tri-of t) i (now (xs .exit)) ⌝ }
+    ensures { λ _. ⌜ Noted (now (xs .entry)) (tri-of t) i (now (xs .exit)) ⌝ }
 {
     xs[t.a as usize] = i;
     xs[t.b as usize] = i;

@@ -10,6 +10,7 @@ use mir.Val.{ofZ}
 use Rattle.std.specs.declared.result.Result.{Result}
 use Rattle.std.specs.declared.result.Result.the-variants.{Ok, Err}
 use Rattle.fault.specs.declared.fault.Fault.{Fault}
+use Rattle.fault.specs.declared.fault.Fault.the-variants.{ShortBuffer}
 use Rattle.fault.specs.Faults.{told}
 use Rattle.place.specs.Words.{word-bytes}
 use Rattle.place.specs.Grids.{grid-kind}
@@ -17,9 +18,9 @@ use Rattle.place.specs.Floats.{float-kind}
 use Rattle.survey.specs.declared.counts.Counts.{Counts}
 use Rattle.sheet.specs.Surveying.{sheet-surveyed}
 
--- the kind byte 2 is that of the floats; any other is read as the grid, which refuses all but its own
+-- a sheet with the kind byte of the floats is read as floats; any other as the grid, which refuses all but its own
 abbrev pub any-surveyed : List ℕ → Result Counts Fault
-any-surveyed bs = cond (eqb (getD bs 5 0) 2) (sheet-surveyed float-kind bs) (sheet-surveyed grid-kind bs)
+any-surveyed bs = cond (eqb (getD bs 5 0) (float-kind .byte)) (sheet-surveyed float-kind bs) (sheet-surveyed grid-kind bs)
 
 -- four bytes, the first the highest, in two's complement
 abbrev pub signed-bytes : ℤ → List ℕ
@@ -39,9 +40,9 @@ abbrev pub written : Result Counts Fault → List ℕ → List ℕ
 written (Ok c) out = counts-bytes c ++ drop 16 out
 written (Err f) out = out
 
--- a buffer under 16 bytes is refused by 9 before anything else
+-- a buffer under 16 bytes is refused before anything else
 abbrev pub answer : List ℕ → List ℕ → ℕ
-answer bs out = cond (ltb (length out) 16) 9 (number-of (any-surveyed bs))
+answer bs out = cond (ltb (length out) 16) (told (ShortBuffer 16) .number) (number-of (any-surveyed bs))
 
 abbrev pub after : List ℕ → List ℕ → List ℕ
 after bs out = cond (ltb (length out) 16) out (written (any-surveyed bs) out)

@@ -3,6 +3,7 @@ ghost use mathlib.Core.Path.{_≡_};
 ghost use Rattle.survey_c.specs.Answers.{answer, after};
 use crate::packing::counts_bytes;
 use crate::surveying::survey_any;
+use fault::Fault;
 
 // 0 with V, E, T and V − E + T in the first 16 bytes of `out`, or the refusal's number with nothing written.
 #[unsafe(no_mangle)]
@@ -11,7 +12,7 @@ pub extern "C" fn wz_survey_sheet(sheet: &[u8], out: &mut [u8]) -> u32
     ensures after { λ _. ⌜ now (out .exit) ≡ after (now (sheet .entry)) (now (out .entry)) ⌝ }
 {
     if out.len() < 16 {
-        return 9;
+        return u32::from(Fault::ShortBuffer(16).number());
     }
     match survey_any(sheet) {
         Ok(counts) => {

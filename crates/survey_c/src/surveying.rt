@@ -6,7 +6,8 @@ use fault::Fault;
 use place::FloatKind;
 use place::FloatPlace;
 use place::Grid;
-use place::GridPlace;
+use place::GridKind;
+use place::Place;
 use sheet::survey_sheet;
 use survey::Counts;
 
@@ -17,11 +18,11 @@ fn kind_of(bytes: &[u8]) -> u8
     if bytes.len() > 5 { bytes[5] } else { 0 }
 }
 
-// By the sheet's kind byte: 2 for floats, and the grid refuses what is not its own.
+// By the sheet's kind byte: floats, or else the grid, which refuses what is not its own.
 pub(crate) fn survey_any(bytes: &[u8]) -> Result<Counts, Fault>
     ensures { λ r. ⌜ r ≡ any-surveyed (now (bytes .entry)) ⌝ }
 {
-    if kind_of(bytes) == 2 {
+    if kind_of(bytes) == FloatPlace::kind_byte() {
         survey_sheet::<FloatPlace>(bytes)
     } else {
         survey_sheet::<Grid>(bytes)

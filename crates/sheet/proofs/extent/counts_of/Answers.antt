@@ -1,6 +1,6 @@
 use borrow.Author.Needs.{needs}
 use Rattle.sheet.specs.Content.{vertices-in, triangles-in}
-use Rattle.sheet.proofs.extent.extent.Needs as need
+use Rattle.sheet.proofs.extent.counts_of.Needs as need
 
 pub returns-in-Some : need.returns-in-Some
 unfolding vertices-in triangles-in
