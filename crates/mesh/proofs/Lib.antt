@@ -9,3 +9,4 @@ pub mod Finding
 pub mod Rise
 pub mod Counting
 pub mod Following
+pub mod Changing

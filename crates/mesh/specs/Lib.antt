@@ -8,3 +8,4 @@ pub mod Meshes
 pub mod Limits
 pub mod Follow
 pub mod Searches
+pub mod Growth

@@ -1,9 +1,11 @@
-// Closed triangle meshes: what they are, and what a surface tells of one.
+// Closed triangle meshes: what they are, what a surface tells of one, and how one grows.
+mod growing;
 mod limits;
 mod surface;
 mod theorems;
 mod triangle;
 
+pub use growing::GrowingStore;
 pub use limits::MAX_TRIANGLES;
 pub use limits::MAX_VERTICES;
 pub use limits::MIN_TRIANGLES;

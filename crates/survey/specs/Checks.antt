@@ -2,19 +2,20 @@
 use mathlib.Core.Bool.{Bool, true, false, not, _&&_, _||_}
 use mathlib.Core.List.{List}
 use Prim.Native.Nat.{ℕ}
-use lib.Dec.{eqb, ltb}
+use lib.Dec.{ltb}
 use lib.ListN.{length}
 use Rattle.std.specs.declared.option.Option.{Option}
 use Rattle.std.specs.declared.option.Option.the-variants.{Some, None}
 use Rattle.std.specs.Options.{isSome}
 use Rattle.std.specs.shelf.Maps.{nth}
 use Rattle.mesh.specs.Triangles.{Tri, tri}
+use Rattle.mesh.specs.Growth.{all-below, different}
 use Rattle.mesh.specs.Sides.{side-of}
 use Rattle.mesh.specs.Searches.{first-in}
 
 -- all three corners are below V, and differ
 abbrev pub good-corners : ℕ → Tri → Bool
-good-corners V (tri a b c) = (ltb a V && (ltb b V && ltb c V)) && (not (eqb a b) && (not (eqb b c) && not (eqb c a)))
+good-corners V t = all-below V t && different t
 
 abbrev pub bad-one : ℕ → Option Tri → Bool
 bad-one V None = false

@@ -1,0 +1,13 @@
+pub mod Fronts
+pub mod Growing
+pub mod Searching
+pub mod Counts
+pub mod Chains
+pub mod Rests
+pub mod Lowest
+pub mod Seeking
+pub mod Corners
+pub mod Sound
+pub mod Stages
+pub mod Linked
+pub mod Moved
