@@ -1,0 +1,10 @@
+pub mod Marks
+pub mod Trees
+pub mod Roots
+pub mod Loops
+pub mod Numbering
+pub mod Polygons
+pub mod Splitting
+pub mod Places
+pub mod Theorems
+pub mod Cases
