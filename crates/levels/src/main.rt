@@ -5,8 +5,7 @@ mod lines;
 mod tests;
 
 use base::read_base;
-use lines::print_base;
-use lines::print_total;
+use lines::print_report;
 use lines::print_usage;
 use std::env;
 use std::io;
@@ -22,6 +21,5 @@ fn main(rt: LibcRuntime) -> io::Result<()> {
     let mut input = BufReader::new(rt.stdin());
     let mut buffer = [0u8; ITEM_LIMIT];
     let base = read_base(&mut input, &mut buffer)?;
-    print_base(&rt, base)?;
-    print_total(&rt)
+    print_report(&rt, base)
 }

@@ -22,7 +22,7 @@ step-cases (Some p) v = go (ltb p v) refl
     go true e = inr (ltb-true p v e)
     go false e = inl refl
 
-still : (n : ℕ) (ps : List ℕ) (v : ℕ) → back-step ps v ≡ v → back-steps n ps v ≡ v
+pub still : (n : ℕ) (ps : List ℕ) (v : ℕ) → back-step ps v ≡ v → back-steps n ps v ≡ v
 still zero ps v e = refl
 still (suc n) ps v e = ap (back-steps n ps) e ∙ still n ps v e
 

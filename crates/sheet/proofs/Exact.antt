@@ -31,11 +31,11 @@ use Rattle.sheet.specs.Bounds.{Right, right}
 use Rattle.sheet.specs.Opening.{Sheet-exact}
 
 -- with a right layout the counts are those of the fields
-vertices-are : {P D : Type 0} (k : Kind P D) (bs : List ℕ) → layout-fault k bs ≡ None → vertices-in k bs ≡ vertices-of bs
+pub vertices-are : {P D : Type 0} (k : Kind P D) (bs : List ℕ) → layout-fault k bs ≡ None → vertices-in k bs ≡ vertices-of bs
 unfolding vertices-in
 vertices-are k bs e = ap (λ (o : Option Fault). count-unless o (vertices-of bs)) e
 
-triangles-are : {P D : Type 0} (k : Kind P D) (bs : List ℕ) → layout-fault k bs ≡ None → triangles-in k bs ≡ triangles-of bs
+pub triangles-are : {P D : Type 0} (k : Kind P D) (bs : List ℕ) → layout-fault k bs ≡ None → triangles-in k bs ≡ triangles-of bs
 unfolding triangles-in
 triangles-are k bs e = ap (λ (o : Option Fault). count-unless o (triangles-of bs)) e
 

@@ -23,6 +23,25 @@ pub struct ChainVertex {
     pub first: u32,
 }
 
+// What a table may be filled with before a store takes it.
+impl ChainTriangle {
+    pub const UNUSED: ChainTriangle = ChainTriangle {
+        a: ChainCorner { vertex: 0, next: 0 },
+        b: ChainCorner { vertex: 0, next: 0 },
+        c: ChainCorner { vertex: 0, next: 0 },
+    };
+}
+
+impl ChainVertex {
+    pub const UNUSED: ChainVertex = ChainVertex {
+        stored: VertexRecord {
+            place: [0; 12],
+            parent: 0,
+        },
+        first: 0,
+    };
+}
+
 // The two tables of a chain store.
 #[derive(Drop)]
 pub(crate) struct ChainTables<'a> {

@@ -1,0 +1,4 @@
+pub mod Copies
+pub mod Telling
+pub mod Answers
+pub mod Questions

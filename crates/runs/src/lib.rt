@@ -1,0 +1,2 @@
+// Jobs and runs of calls, by definition.
+mod theorems;

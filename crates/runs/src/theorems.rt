@@ -1,0 +1,1 @@
+// Theorems over runs of calls.
