@@ -100,7 +100,7 @@ vertex-is : {P : Type 0} (o : Option (Vertex P)) (p : P) (n : ℕ) → mapped (�
 vertex-is None p n e i = none-some e
 vertex-is (Some x) p n e i = let a = some-inj e in let b = some-inj i in ap (λ q. Some (vertex-of q (x .parent))) a ∙ ap (λ (m : ℕ). Some (vertex-of p m)) b
 
-there-value : {X : Type 0} (xs : List X) (i : ℕ) → i < length xs → (x : X) × (nth xs i ≡ Some x)
+pub there-value : {X : Type 0} (xs : List X) (i : ℕ) → i < length xs → (x : X) × (nth xs i ≡ Some x)
 there-value {X} xs i h = go (nth xs i) refl
   where
     go : (o : Option X) → nth xs i ≡ o → (x : X) × (nth xs i ≡ Some x)

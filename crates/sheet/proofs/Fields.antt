@@ -3,6 +3,7 @@ use mathlib.Core.Path.{_≡_, refl, sym, ap, _∙_}
 use mathlib.Core.Bool.{Bool, true, false}
 use mathlib.Core.List.{List}
 use Prim.Native.Nat.{ℕ, _+_, _*_, _<_, _≤_}
+use native.Mathlib.Nat.{mul-le-mul-right}
 use native.Mathlib.Omega.{arith}
 use lib.ListN.{length}
 use Rattle.std.specs.declared.option.Option.{Option}
@@ -49,3 +50,7 @@ offset-is k bs V w t e i h = let f = e ∙ vertices-field k bs t h in ap (λ (x 
 
 pub place-offset-is : (width w v : ℕ) → w ≡ width → 14 + v * w ≡ place-offset width v
 place-offset-is width w v e = ap (λ (x : ℕ). 14 + v * x) e
+
+-- the largest sheet
+pub size-small : (width V T : ℕ) → width ≤ 12 → V ≤ 16384 → T ≤ 32768 → sheet-size width V T ≤ 589838
+size-small width V T w v t = let p : V * width ≤ 16384 * width = mul-le-mul-right width v in omega arith

@@ -29,11 +29,12 @@ fn head_fault(kind: u8, bytes: &[u8]) -> Option<Fault>
 }
 
 // The length of a sheet with these counts.
-fn sheet_size(width: usize, vertices: u32, triangles: u32) -> usize
+pub(crate) fn sheet_size(width: usize, vertices: u32, triangles: u32) -> usize
     requires { ⌜ width ≤ 12 ⌝ }
     requires { ⌜ vertices ≤ 16384 ⌝ }
     requires { ⌜ triangles ≤ 32768 ⌝ }
-    ensures { λ r. ⌜ r ≡ sheet-size width vertices triangles ⌝ }
+    ensures value { λ r. ⌜ r ≡ sheet-size width vertices triangles ⌝ }
+    ensures small { λ r. ⌜ r ≤ 589838 ⌝ }
 {
     HEAD + vertices as usize * width + triangles as usize * 12
 }

@@ -1,20 +1,23 @@
 -- The chain store's tables with one more vertex, and with one more triangle.
 use mathlib.Core.Path.{_≡_, refl, ap, subst, _∙_}
+use mathlib.Core.Bool.{true}
 use mathlib.Core.List.{List, [], _∷_, _++_}
-use Prim.Native.Nat.{ℕ, _+_, _*_, _/_, _<_, _≤_}
+use Prim.Native.Nat.{ℕ, _+_, _*_, _/_, _<_, _≤_, min}
 use native.Mathlib.Omega.{arith}
 use lib.ListN.{length, set, length-set}
 use lib.Dec.{ltb}
 use Rattle.std.proofs.shelf.Lists.{getD-set-same, getD-set-other}
 use Rattle.mesh.specs.Triangles.{Tri, tri}
+use Rattle.mesh.specs.Growth.{triangle-fits}
 use Rattle.stores.specs.declared.chain_record.ChainTriangle.{ChainTriangle}
 use Rattle.stores.specs.declared.chain_record.ChainVertex.{ChainVertex}
 use Rattle.stores.specs.Records.{front}
 use Rattle.stores.specs.Chains.{chain-corner, chain-triangle, no-vertex, corners-in, vertex-at, next-at, first-at, with-first, put-corner, put-first}
 use Rattle.stores.proofs.Fronts.{front-push}
+use Rattle.stores.proofs.Growing.{triangle-has-room, triangle-within}
 use Rattle.stores.proofs.Corners.{vertices-kept, put-three}
 use Rattle.stores.proofs.Sound.{sound-more}
-use Rattle.stores.proofs.Stages.{Whole, Kept, whole-kept, whole-link}
+use Rattle.stores.proofs.Stages.{Whole, Kept, whole-held, whole-kept, whole-link}
 
 -- a new vertex, whose chain is empty
 pub more-vertex : (n m : ℕ) (rs : List ChainTriangle) (vs : List ChainVertex) (r : ChainVertex) → Whole n m rs vs → r .first ≡ 0 → m < length vs → Kept n (m + 1) rs (set vs m r)
@@ -32,12 +35,20 @@ pub record Added {X : Type 0} (f : ChainVertex → X) (n m : ℕ) (rs : List Cha
   pub kept : Kept (3 * (n + 1)) m rs′ vs′
   pub triangles : front corners-in (n + 1) rs′ ≡ front corners-in n rs ++ (t ∷ [])
   pub vertices : front f m vs′ ≡ front f m vs
+  pub fit : n + 1 ≤ min (length rs′) 32768
   pub long : length rs′ ≡ length rs
   pub tall : length vs′ ≡ length vs
 
--- the three corners of triangle n are linked in, one by one
-pub added : {X : Type 0} (f : ChainVertex → X) → ((r : ChainVertex) (h : ℕ) → f (with-first r h) ≡ f r) → (n m a b c : ℕ) (rs rs₁ rs₂ rs₃ : List ChainTriangle) (vs vs₁ vs₂ vs₃ : List ChainVertex) → Whole (3 * n) m rs vs → n < length rs → m ≤ length vs → a < m → b < m → c < m → rs₁ ≡ put-corner rs (3 * n) (chain-corner a (first-at vs a)) → vs₁ ≡ put-first vs a (3 * n + 1) → rs₂ ≡ put-corner rs₁ (3 * n + 1) (chain-corner b (first-at vs₁ b)) → vs₂ ≡ put-first vs₁ b (3 * n + 1 + 1) → rs₃ ≡ put-corner rs₂ (3 * n + 2) (chain-corner c (first-at vs₂ c)) → vs₃ ≡ put-first vs₂ c (3 * n + 2 + 1) → Added f n m rs vs (tri a b c) rs₃ vs₃
-added f fh n m a b c rs rs₁ rs₂ rs₃ vs vs₁ vs₂ vs₃ s ln lm la lb lc e₁ d₁ e₂ d₂ e₃ d₃ =
+-- the three corners of triangle n, which fits, are linked in one by one
+pub added : {X : Type 0} (f : ChainVertex → X) → ((r : ChainVertex) (h : ℕ) → f (with-first r h) ≡ f r) → (room n m a b c : ℕ) (rs rs₁ rs₂ rs₃ : List ChainTriangle) (vs vs₁ vs₂ vs₃ : List ChainVertex) → Kept (3 * n) m rs vs → m ≤ length vs → room ≡ min (length rs) 32768 → triangle-fits room n m (tri a b c) ≡ true → rs₁ ≡ put-corner rs (3 * n) (chain-corner a (first-at vs a)) → vs₁ ≡ put-first vs a (3 * n + 1) → rs₂ ≡ put-corner rs₁ (3 * n + 1) (chain-corner b (first-at vs₁ b)) → vs₂ ≡ put-first vs₁ b (3 * n + 1 + 1) → rs₃ ≡ put-corner rs₂ (3 * n + 2) (chain-corner c (first-at vs₂ c)) → vs₃ ≡ put-first vs₂ c (3 * n + 2 + 1) → Added f n m rs vs (tri a b c) rs₃ vs₃
+added f fh room n m a b c rs rs₁ rs₂ rs₃ vs vs₁ vs₂ vs₃ kept lm er fit e₁ d₁ e₂ d₂ e₃ d₃ =
+    let s = whole-held (3 * n) m rs vs (kept .placed) (kept .ends) (kept .holds) in
+    let lr = triangle-has-room room n m (tri a b c) fit in
+    let ln : n < length rs = omega arith in
+    let w = triangle-within room n m a b c fit in
+    let la : a < m = w .0 in
+    let lb : b < m = w .1 in
+    let lc : c < m = w .2 in
     let x = chain-corner a (first-at vs a) in
     let y = chain-corner b (first-at vs₁ b) in
     let z = chain-corner c (first-at vs₂ c) in
@@ -62,6 +73,7 @@ added f fh n m a b c rs rs₁ rs₂ rs₃ vs vs₁ vs₂ vs₃ s ln lm la lb lc 
       vertices = ap (front f m) d₃ ∙ vertices-kept f fh m vs₂ c (3 * n + 2 + 1)
           ∙ ap (front f m) d₂ ∙ vertices-kept f fh m vs₁ b (3 * n + 1 + 1)
           ∙ ap (front f m) d₁ ∙ vertices-kept f fh m vs a (3 * n + 1);
+      fit = omega arith;
       long = l₃ ∙ l₂ ∙ l₁;
       tall = t₃ ∙ t₂ ∙ t₁;
     }

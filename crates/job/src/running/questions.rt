@@ -6,6 +6,7 @@ ghost use Rattle.mesh.specs.Triangles.{tri-of};
 ghost use Rattle.mesh.specs.Sides.{side-of};
 ghost use Rattle.mesh.specs.Meshes.{vertex-total, triangle-total, place-at, parent-at};
 ghost use Rattle.survey.specs.Survey.{surveyed};
+ghost use Rattle.sheet.specs.Writing.{sheet-written, sheet-after};
 ghost use Rattle.job.specs.Questions.{followed};
 use crate::following::follow_back;
 use crate::running::Running;
@@ -58,6 +59,18 @@ impl Running {
         ensures { λ r. ⌜ r ≡ surveyed (vertex-total (mesh (now (store .entry)))) (mesh (now (store .entry)) .triangles) ⌝ }
     {
         survey::survey(store)
+    }
+
+    // Writes the mesh as a sheet and answers how many bytes; a short buffer is refused and stays as it is.
+    pub fn write_sheet<P: Place, S: ReadingSurface<Kind = P>>(
+        &self,
+        store: &S,
+        out: &mut [u8],
+    ) -> Result<usize, Fault>
+        ensures answer { λ r. ⌜ r ≡ sheet-written (P·Place .kind) (S·ReadingSurface .mesh (now (store .entry))) (now (out .entry)) ⌝ }
+        ensures written { λ _. ⌜ now (out .exit) ≡ sheet-after (P·Place .kind) (S·ReadingSurface .mesh (now (store .entry))) (now (out .entry)) ⌝ }
+    {
+        sheet::write_sheet(store, out)
     }
 
     // Where vertex v came from: to the parent, while its number is smaller.

@@ -1,13 +1,13 @@
 use mathlib.Core.Path.{refl, sym, ap, _∙_}
-use Prim.Native.Nat.{_<_, _≤_, _*_, min}
+use Prim.Native.Nat.{_*_, _≤_, min}
 use native.Mathlib.Omega.{arith}
 use lib.ListN.{length}
 use borrow.Author.Needs.{needs}
 use Rattle.mesh.specs.Triangles.{tri-of}
 use Rattle.stores.specs.Chains.{corners-in}
 use Rattle.stores.specs.Chained.{chained-in}
-use Rattle.stores.proofs.Growing.{same-mesh, triangle-answer, triangle-has-room, triangle-within}
-use Rattle.stores.proofs.Stages.{whole-held}
+use Rattle.stores.proofs.Growing.{same-mesh, triangle-answer}
+use Rattle.stores.proofs.Stages.{Kept}
 use Rattle.stores.proofs.Linked.{added}
 use Rattle.stores.proofs.chain_growing.ChainGrowing.add_triangle.Needs as need
 
@@ -30,14 +30,11 @@ ghost-self g c =
     let rs = s .tables .triangles .now in
     let vs = s .tables .vertices .now in
     let t = c .args .t in
-    let fit = sym (c .triangle-fits .ensures) ∙ c .if-not-triangle-fits .left in
-    let room : n < c .triangle-room-room .result = triangle-has-room (c .triangle-room-room .result) n m (tri-of t) fit in
-    let h : n < length rs = omega (arith, c .triangle-room-room .ensures) in
     let l : m ≤ length vs = search needs in
-    let w = triangle-within (c .triangle-room-room .result) n m (t .a) (t .b) (t .c) fit in
-    let a = added (chained-in (g .P·Place .kind)) (λ r h. refl) n m (t .a) (t .b) (t .c) rs _ _ _ vs _ _ _ (whole-held (3 * n) m rs vs (s .placed) (s .ends) (s .holds)) h l (w .0) (w .1) (w .2)
+    let k : Kept (3 * n) m rs vs = record { placed = s .placed; ends = s .ends; holds = s .holds } in
+    let a = added (chained-in (g .P·Place .kind)) (λ r h. refl) _ n m (t .a) (t .b) (t .c) rs _ _ _ vs _ _ _ k l (c .triangle-room-room .ensures) (sym (c .triangle-fits .ensures) ∙ c .if-not-triangle-fits .left)
     (c .link .ensures .corners) (c .link .ensures .firsts) (c .link-2 .ensures .corners) (c .link-2 .ensures .firsts) (c .link-3 .ensures .corners) (c .link-3 .ensures .firsts) in
-    (omega (arith, c .triangle-room-room .ensures, a .long), (omega (arith, s .«vertices_fit», a .tall), (a .kept .placed, (a .kept .ends, (a .kept .holds, tt)))))
+    (a .fit, (omega (arith, s .«vertices_fit», a .tall), (a .kept .placed, (a .kept .ends, (a .kept .holds, tt)))))
 
 pub returns : need.returns
 returns g c =
@@ -47,15 +44,14 @@ returns g c =
     let rs = s .tables .triangles .now in
     let vs = s .tables .vertices .now in
     let t = c .args .t in
-    let fit = sym (c .triangle-fits .ensures) ∙ c .if-not-triangle-fits .left in
-    let room : n < c .triangle-room-room .result = triangle-has-room (c .triangle-room-room .result) n m (tri-of t) fit in
-    let h : n < length rs = omega (arith, c .triangle-room-room .ensures) in
+    let h : n ≤ length rs = search needs in
     let l : m ≤ length vs = search needs in
-    let w = triangle-within (c .triangle-room-room .result) n m (t .a) (t .b) (t .c) fit in
-    let a = added (chained-in (g .P·Place .kind)) (λ r h. refl) n m (t .a) (t .b) (t .c) rs _ _ _ vs _ _ _ (whole-held (3 * n) m rs vs (s .placed) (s .ends) (s .holds)) h l (w .0) (w .1) (w .2)
+    let k : Kept (3 * n) m rs vs = record { placed = s .placed; ends = s .ends; holds = s .holds } in
+    let fit = sym (c .triangle-fits .ensures) ∙ c .if-not-triangle-fits .left in
+    let a = added (chained-in (g .P·Place .kind)) (λ r h. refl) _ n m (t .a) (t .b) (t .c) rs _ _ _ vs _ _ _ k l (c .triangle-room-room .ensures) fit
     (c .link .ensures .corners) (c .link .ensures .firsts) (c .link-2 .ensures .corners) (c .link-2 .ensures .firsts) (c .link-3 .ensures .corners) (c .link-3 .ensures .firsts) in
     record {
-      answer = triangle-answer corners-in (chained-in (g .P·Place .kind)) _ _ _ _ rs vs (tri-of t) _ fit (c .triangle-room-room .ensures) (omega arith) l;
+      answer = triangle-answer corners-in (chained-in (g .P·Place .kind)) _ _ _ _ rs vs (tri-of t) _ fit (c .triangle-room-room .ensures) h l;
       after = same-mesh (a .triangles) (a .vertices);
       room = (ap (λ z. min z 16384) (a .tall), ap (λ z. min z 32768) (a .long));
     }
