@@ -9,7 +9,7 @@ cp -r crates crates.txt "$copy"
 [ -d target ] && cp -r target "$copy"
 cd "$copy"
 mkdir -p crates/misuse/src
-echo 'misuse: fault place mesh survey sheet stores runs job' >> crates.txt
+echo 'misuse: fault place mesh survey sheet stores record forest runs job' >> crates.txt
 failed=0
 for file in "$OLDPWD"/tools/typestate/*.misuse; do
     name=$(basename "$file" .misuse)

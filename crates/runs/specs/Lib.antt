@@ -1,1 +1,11 @@
 pub mod Jobs
+pub mod Parts
+pub mod Outcome
+pub mod Figures
+pub mod Splits
+pub mod Calls
+pub mod Runs
+pub mod Reports
+pub mod Statement
+pub mod Cases
+pub mod Decoded
