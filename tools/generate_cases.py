@@ -487,7 +487,7 @@ def second_polygon(codes, mirrored):
 
 
 def check_accepted(play, before, data, outcome):
-    """All that is promised of an accepted split, and some remarks of the documents."""
+    """All that is promised of an accepted split, and some remarks of docs/."""
     store, kind = play.store, play.store.kind
     v, e, t, marked, trees, forest = outcome
     places, parents, triangles = before
@@ -721,7 +721,7 @@ def block(name, **how):
     return Play(name, BLOCK, places=BLOCK_PLACES, tags=("block",), **how)
 
 
-# ---- the examples of the documents
+# ---- the examples of docs/
 
 def by_bits(bits, count):
     return [bits >> 7 - e & 1 for e in range(count)]
@@ -1720,7 +1720,7 @@ def machine_sum(x, y):
     return None if bits & 0x7F800000 == 0x7F800000 else bits
 
 
-# ---------------------------------------------------------------- remarks of the documents
+# ---------------------------------------------------------------- remarks of docs/
 
 def check_documents():
     """Worked examples and remarks that no case of the table shows."""

@@ -1,9 +1,10 @@
 -- The numbers of a running job, and what its calls answer.
-use Prim.Native.Nat.{ℕ, _*_, _/_}
+use Prim.Native.Nat.{ℕ}
 use Rattle.std.specs.declared.result.Result.{Result}
 use Rattle.std.specs.declared.result.Result.the-variants.{Ok, Err}
 use Rattle.fault.specs.declared.fault.Fault.{Fault}
-use Rattle.runs.specs.Jobs.{Numbers, vertices-now, triangles-now}
+use Rattle.runs.specs.Jobs.{Numbers}
+use Rattle.runs.specs.Calls.{report}
 use Rattle.job.specs.declared.running.Running.{Running}
 use Rattle.job.specs.declared.opened.Opened.{Opened}
 use Rattle.job.specs.declared.closed.Report.{Report}
@@ -16,6 +17,8 @@ abbrev pub base-told : Result Running (Opened × Fault) → Result Numbers Fault
 base-told (Ok r) = Ok (job-of r)
 base-told (Err p) = Err (p .1)
 
--- the report of a job with these numbers: three edges for two triangles
+-- the report of a job with these numbers
 abbrev pub report-of : Numbers → Report
-report-of n = record { vertices = vertices-now n; edges = 3 * triangles-now n / 2; triangles = triangles-now n; records = n .records; «forest_edges» = n .forest-edges; trees = n .trees }
+report-of n =
+    let t = report n in
+    record { vertices = t .vertices; edges = t .edges; triangles = t .triangles; records = t .records; «forest_edges» = t .forest-edges; trees = t .trees }

@@ -1,4 +1,3 @@
 pub mod Copies
 pub mod Telling
 pub mod Answers
-pub mod Questions

@@ -3,7 +3,7 @@ ghost use mathlib.Core.Path.{_≡_};
 ghost use Rattle.mesh.specs.Follow.{back-step};
 ghost use Rattle.mesh.specs.Follow.{follow-back as led};
 ghost use Rattle.mesh.specs.Meshes.{parents};
-ghost use Rattle.job.specs.Questions.{followed};
+ghost use Rattle.runs.specs.Calls.{ancestor};
 use mesh::ReadingSurface;
 
 // The parent where its number is smaller, else the vertex.
@@ -32,10 +32,11 @@ fn back_from<S: ReadingSurface>(store: &S, v: u32) -> u32
 
 // Where the vertex came from; none if there is no such vertex.
 pub(crate) fn follow_back<S: ReadingSurface>(store: &S, v: u32) -> Option<u32>
-    ensures { λ r. ⌜ r ≡ followed (mesh (now (store .entry))) v ⌝ }
+    ensures { λ r. ⌜ r ≡ ancestor (mesh (now (store .entry))) v ⌝ }
 {
-    match store.parent(v) {
-        Some(_) => Some(back_from(store, v)),
-        None => None,
+    if v < store.vertex_count() {
+        Some(back_from(store, v))
+    } else {
+        None
     }
 }

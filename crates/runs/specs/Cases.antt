@@ -93,6 +93,15 @@ pub record Outcome-cases : Type 0 where
   -- the codes 0 and 0, and the codes 1 and 0
   pub off-tree : refused-by (still-record 0x90 0x00) ≡ Some (tells 31 4 0)
   pub side-twice : refused-by (still-record 0x90 0x40) ≡ Some (tells 33 4 4)
+  -- the edges 0–1 and 0–2 marked, a mirrored tree
+  pub mirrored : split-mesh-after grid-kind 5 6 176 grid-block (base-numbers grid-block) (still-record 0xc0 0x80) .triangles ≡ tri 0 1 2 ∷ tri 4 2 3 ∷ tri 4 3 1 ∷ tri 1 3 2 ∷ tri 1 0 4 ∷ tri 4 0 2 ∷ []
+  -- of two faults the earlier check tells: the table before the store, the store's mesh before its counts, a spare bit before no mark, the size before the room, vertices before triangles, a side twice before a place
+  pub table-first : mapped told (split-fault grid-kind 5 6 175 open-block (base-numbers grid-block) []) ≡ Some (tells 1 1 0)
+  pub open-first : mapped told (split-fault grid-kind 5 6 176 open-block plain-numbers []) ≡ Some (tells 3 1 0)
+  pub spare-first : refused-by (still-record 0x01 0x80) ≡ Some (tells 24 2 10)
+  pub size-first : refused-within 4 5 (head 31 1 1 2 ++ (0x90 ∷ 0x80 ∷ replicate 23 0)) ≡ Some (tells 29 2 0)
+  pub vertices-first : refused-within 4 5 plain-record ≡ Some (tells 5 1 0)
+  pub side-first : refused-by (head 32 1 1 2 ++ (0x90 ∷ 0x40 ∷ (replicate 22 0 ++ (255 ∷ 255 ∷ [])))) ≡ Some (tells 33 4 4)
   -- the last displacement by (0, 0, −1)
   pub below-zero : refused-by (head 32 1 1 2 ++ (0x90 ∷ 0x80 ∷ (replicate 22 0 ++ (255 ∷ 255 ∷ [])))) ≡ Some (tells 34 5 4)
 

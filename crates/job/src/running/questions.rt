@@ -7,7 +7,7 @@ ghost use Rattle.mesh.specs.Sides.{side-of};
 ghost use Rattle.mesh.specs.Meshes.{vertex-total, triangle-total, place-at, parent-at};
 ghost use Rattle.survey.specs.Survey.{surveyed};
 ghost use Rattle.sheet.specs.Writing.{sheet-written, sheet-after};
-ghost use Rattle.job.specs.Questions.{followed};
+ghost use Rattle.runs.specs.Calls.{ancestor};
 use crate::following::follow_back;
 use crate::running::Running;
 use fault::Fault;
@@ -75,7 +75,7 @@ impl Running {
 
     // Where vertex v came from: to the parent, while its number is smaller.
     pub fn follow_back<S: ReadingSurface>(&self, store: &S, v: u32) -> Option<u32>
-        ensures { λ r. ⌜ r ≡ followed (mesh (now (store .entry))) v ⌝ }
+        ensures { λ r. ⌜ r ≡ ancestor (mesh (now (store .entry))) v ⌝ }
     {
         follow_back(store, v)
     }

@@ -27,5 +27,12 @@ returns c = record {
   spare-code = refl;
   off-tree = refl;
   side-twice = refl;
+  mirrored = refl;
+  table-first = refl;
+  open-first = refl;
+  spare-first = refl;
+  size-first = refl;
+  vertices-first = refl;
+  side-first = refl;
   below-zero = refl;
 }
