@@ -1,4 +1,6 @@
 // Why a call refuses.
+#![tactic(auto)]
+
 mod fault;
 mod told;
 mod words;

@@ -1,4 +1,6 @@
 // The split of a closed mesh by a forest of marked edges: what it is, and what is true of every split.
+#![tactic(auto)]
+
 mod theorems;
 
 pub use theorems::{

@@ -1,4 +1,6 @@
 // Jobs: a base and the splits that follow it.
+#![tactic(auto)]
+
 mod basing;
 mod closed;
 mod copying;

@@ -1,4 +1,6 @@
 // Reads a base sheet from standard input and prints what it holds.
+#![tactic(auto)]
+
 mod base;
 mod lines;
 #[cfg(test)]

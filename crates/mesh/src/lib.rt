@@ -1,4 +1,6 @@
 // Closed triangle meshes: what they are, what a surface tells of one, and how one grows.
+#![tactic(auto)]
+
 mod growing;
 mod limits;
 mod surface;

@@ -1,4 +1,6 @@
 // The kinds of place: three numbers of 16 bits on a grid, or three finite floats.
+#![tactic(auto)]
+
 mod float;
 mod float_place;
 mod grid;

@@ -1,4 +1,6 @@
 // Records: what a split is written in.
+#![tactic(auto)]
+
 mod bytes;
 mod checks;
 mod codes;

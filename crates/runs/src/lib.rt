@@ -1,4 +1,6 @@
 // Jobs and runs of calls, by definition.
+#![tactic(auto)]
+
 mod theorems;
 
 pub use theorems::{

@@ -1,4 +1,6 @@
 // The bytes of a sheet as a reading surface.
+#![tactic(auto)]
+
 mod checks;
 mod extent;
 mod opening;

@@ -1,4 +1,6 @@
 // Surveys each sheet of the input as grid, as floats, for a small store and as a C program would, and prints what each answers.
+#![tactic(auto)]
+
 mod outcome;
 
 use items::{Item, next_item};

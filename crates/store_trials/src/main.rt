@@ -1,4 +1,6 @@
 // Plays a list store and a chain store through the same calls, with grid and with float places, and compares what they answer.
+#![tactic(auto)]
+
 mod play;
 
 use mesh::Triangle;

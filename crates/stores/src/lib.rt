@@ -1,4 +1,6 @@
 // Stores of meshes in tables that are lent to them.
+#![tactic(auto)]
+
 mod chain;
 mod chain_growing;
 mod chain_links;

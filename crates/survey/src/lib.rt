@@ -1,4 +1,6 @@
 // The survey of a surface: its counts if it is a closed mesh, else its first fault.
+#![tactic(auto)]
+
 mod checks;
 mod counts;
 mod passes;

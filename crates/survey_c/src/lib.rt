@@ -1,4 +1,6 @@
 // The survey of a sheet for C programs.
+#![tactic(auto)]
+
 mod call;
 mod packing;
 mod surveying;
