@@ -5,9 +5,9 @@ use Rattle.place.specs.Floats.{float_origin}
 use Rattle.place.specs.Places.{same_place}
 use Rattle.place.proofs.float.FloatPlacePlace.origin.Goals as goal
 
-pub invariant-of-result : goal.invariant-of-result
+pub invariant_of-result : goal.invariant_of-result
 unfolding fits of_bits float_is_finite
-invariant-of-result c = (refl, (refl, tt))
+invariant_of-result c = record { real = refl; held = refl }
 
 pub returns : goal.returns
 unfolding fits of_bits float_is_finite
