@@ -1,5 +1,5 @@
 -- A closed mesh has three edges for two triangles.
-use Rattle.std.proofs.Common.{◌≡◌, ℕ, ◌+◌, ◌*◌, ◌<◌, ◌≤◌, Bool, true, false, not, ltb, ◌⊎◌, List, [], ◌∷◌, length, filter, sym, refl, ap, ◌∙◌, inl, inr, ⊎_elim, arith, ltb-false, ltb-true, le-ltb, lt-ltb}
+use Rattle.std.proofs.Common.{◌≡◌, ℕ, ◌*◌, ◌≤◌, Bool, true, not, ltb, List, [], ◌∷◌, length, filter, refl, ap, inl, ⊎_elim, arith, ltb-false, ltb-true, le-ltb, lt-ltb}
 use borrow.Author.Tests.{not-true}
 use Rattle.std.proofs.lemmas.List.Filters.{length-filter_both}
 use Rattle.mesh.specs.Lists.{Mem, Apart}

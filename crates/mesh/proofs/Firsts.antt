@@ -2,7 +2,7 @@
 use Rattle.std.proofs.Common.{◌≡◌, ℕ, zero, suc, ◌+◌, ◌-◌, ◌<◌, ◌≤◌, Bool, true, false, cond, List, length, Some, None, Option, sym, refl, ap, ◌∙◌, arith}
 use native.Mathlib.Decide.{ℕ_discrete}
 use Rattle.std.specs.List.{slice_get}
-use Rattle.mesh.proofs.Tests.{cond_true, cond_false, none_some, some_inj, nth_below}
+use Rattle.mesh.proofs.Tests.{cond_true, cond_false, none_some, nth_below}
 use Rattle.mesh.specs.Searches.{first_in}
 
 pub first_more : (p : ℕ → Bool) (i n : ℕ) → i < n → p i ≡ false → first_in p i (n - i) ≡ first_in p (i + 1) (n - (i + 1))

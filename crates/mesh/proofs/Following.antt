@@ -1,7 +1,7 @@
 -- Following back comes to its end.
 use Rattle.std.proofs.Common.{◌≡◌, ℕ, zero, suc, ◌<◌, ◌≤◌, Bool, true, false, cond, ltb, ◌⊎◌, List, Some, None, Option, sym, refl, ap, ◌∙◌, subst, inl, inr, ⊎_elim, arith, ltb-false, ltb-true}
 use Rattle.std.specs.List.{slice_get}
-use Rattle.mesh.specs.Follow.{smaller_parent, back_step, back_steps, follow_back, Leads, stays, goes, EndsAt, FollowEnds}
+use Rattle.mesh.specs.Follow.{smaller_parent, back_step, back_steps, stays, goes, EndsAt, FollowEnds}
 use Rattle.mesh.proofs.Tests.{some_inj, none_some}
 
 -- a step stays, or falls

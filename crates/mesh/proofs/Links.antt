@@ -1,11 +1,11 @@
 -- Corners, links and sides of listed triangles.
-use Rattle.std.proofs.Common.{◌≡◌, ℕ, zero, suc, ◌+◌, ◌<◌, ◌≤◌, Bool, true, false, cond, ◌&&◌, eqb, ◌⊎◌, List, [], ◌∷◌, length, Some, None, Option, sym, refl, ap, ◌∙◌, subst, inl, inr, ⊎_elim, arith, eq-eqb, eqb-true}
+use Rattle.std.proofs.Common.{◌≡◌, ℕ, zero, suc, ◌+◌, ◌≤◌, Bool, true, false, cond, ◌&&◌, eqb, ◌⊎◌, List, [], ◌∷◌, Some, None, Option, sym, refl, ap, ◌∙◌, subst, inl, inr, arith, eq-eqb, eqb-true}
 use borrow.Author.Tests.{clash}
 use Rattle.std.specs.Option.{option_map}
 use Rattle.std.specs.List.{slice_get}
-use Rattle.mesh.specs.Lists.{Mem, now, later, Apart, no_one, one_more}
+use Rattle.mesh.specs.Lists.{Mem, now, later, Apart, one_more}
 use Rattle.mesh.specs.Triangles.{Tri, tri}
-use Rattle.mesh.specs.Sides.{Side, side, back, sides, corner_of, Lies, lies_here, side_from, side_of}
+use Rattle.mesh.specs.Sides.{Side, side, sides, corner_of, lies_here, side_from, side_of}
 use Rattle.mesh.specs.Rings.{Corner, at_first, at_second, at_third, Link, here, there}
 use Rattle.mesh.proofs.Tests.{and_true, true_and, some_inj, none_some}
 

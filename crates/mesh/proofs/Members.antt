@@ -1,5 +1,5 @@
 -- Members of lists, and lists without repetition.
-use Rattle.std.proofs.Common.{◌≡◌, ℕ, zero, suc, ◌+◌, ◌<◌, ◌≤◌, Bool, true, false, cond, ◌⊎◌, List, [], ◌∷◌, ◌++◌, map, length, filter, sym, refl, ap, ◌∙◌, inl, inr, ⊎_elim, arith}
+use Rattle.std.proofs.Common.{◌≡◌, suc, ◌≤◌, Bool, true, false, cond, ◌⊎◌, List, [], ◌∷◌, ◌++◌, map, length, filter, refl, ap, ◌∙◌, inl, inr, ⊎_elim, arith}
 use Rattle.mesh.specs.Lists.{Mem, now, later, Apart, no_one, one_more}
 
 module _ {A : Type 0} where

@@ -24,25 +24,25 @@ pub trait GrowingStore: ReadingSurface {
 
     // The vertex goes last. Its parent may be itself, by the number that it will have.
     fn add_vertex(&mut self, place: Self::Kind, parent: u32) -> bool
-        ensures answer { result ≡ may_add_vertex (vertex_room self.old) (mesh self.old) parent }
-        ensures after { mesh self.new ≡ (if result then add_vertex (mesh self.old) place parent else mesh self.old) }
+        ensures answer { result ≡ may_add_vertex (vertex_room self.old) (Self.mesh self.old) parent }
+        ensures after { Self.mesh self.new ≡ (if result then add_vertex (Self.mesh self.old) place parent else Self.mesh self.old) }
         ensures room { SameRoom vertex_room triangle_room self.old self.new };
 
     // The triangle goes last.
     fn add_triangle(&mut self, t: Triangle) -> bool
-        ensures answer { result ≡ may_add_triangle (triangle_room self.old) (mesh self.old) (tri_of t) }
-        ensures after { mesh self.new ≡ (if result then add_triangle (mesh self.old) (tri_of t) else mesh self.old) }
+        ensures answer { result ≡ may_add_triangle (triangle_room self.old) (Self.mesh self.old) (tri_of t) }
+        ensures after { Self.mesh self.new ≡ (if result then add_triangle (Self.mesh self.old) (tri_of t) else Self.mesh self.old) }
         ensures room { SameRoom vertex_room triangle_room self.old self.new };
 
     // Corner 0, 1 or 2 of triangle t becomes v; yes also where it is v already.
     fn replace_corner(&mut self, t: u32, corner: u8, v: u32) -> bool
-        ensures answer { result ≡ may_replace_corner (mesh self.old) t corner v }
-        ensures after { mesh self.new ≡ (if result then replace_corner (mesh self.old) t corner v else mesh self.old) }
+        ensures answer { result ≡ may_replace_corner (Self.mesh self.old) t corner v }
+        ensures after { Self.mesh self.new ≡ (if result then replace_corner (Self.mesh self.old) t corner v else Self.mesh self.old) }
         ensures room { SameRoom vertex_room triangle_room self.old self.new };
 
     // The parent of vertex v stays.
     fn replace_place(&mut self, v: u32, place: Self::Kind) -> bool
-        ensures answer { result ≡ may_replace_place (mesh self.old) v }
-        ensures after { mesh self.new ≡ (if result then replace_place (mesh self.old) v place else mesh self.old) }
+        ensures answer { result ≡ may_replace_place (Self.mesh self.old) v }
+        ensures after { Self.mesh self.new ≡ (if result then replace_place (Self.mesh self.old) v place else Self.mesh self.old) }
         ensures room { SameRoom vertex_room triangle_room self.old self.new };
 }
