@@ -12,7 +12,7 @@ use sheet::Sheet;
 use survey::{Counts, survey};
 
 fn is_empty<S: ReadingSurface>(store: &S) -> bool
-    ensures { result ≡ is_empty (mesh store.now) }
+    ensures { result ≡ is_empty (S.mesh store.now) }
 {
     store.vertex_count() == 0 && store.triangle_count() == 0
 }

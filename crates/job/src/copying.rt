@@ -13,8 +13,8 @@ fn copy_vertex<P: Place, A: ReadingSurface<Kind = P>, S: GrowingStore<Kind = P>>
     v: u32,
 )
     requires copyable { Copyable (S.GrowingStore.vertex_room store.old) (S.GrowingStore.triangle_room store.old) (A.ReadingSurface.mesh from.now) }
-    requires v_bound { v < vertex_total (A.ReadingSurface.mesh from.now) }
-    requires store_value { S.ReadingSurface.mesh store.old ≡ first_vertices v (A.ReadingSurface.mesh from.now) }
+    requires vertex_there { v < vertex_total (A.ReadingSurface.mesh from.now) }
+    requires so_far { S.ReadingSurface.mesh store.old ≡ first_vertices v (A.ReadingSurface.mesh from.now) }
     ensures mesh { S.ReadingSurface.mesh store.new ≡ first_vertices (v + 1) (A.ReadingSurface.mesh from.now) }
     ensures room { SameRoom S.GrowingStore.vertex_room S.GrowingStore.triangle_room store.old store.new }
 {
@@ -29,8 +29,8 @@ fn copy_triangle<P: Place, A: ReadingSurface<Kind = P>, S: GrowingStore<Kind = P
     t: u32,
 )
     requires copyable { Copyable (S.GrowingStore.vertex_room store.old) (S.GrowingStore.triangle_room store.old) (A.ReadingSurface.mesh from.now) }
-    requires t_bound { t < triangle_total (A.ReadingSurface.mesh from.now) }
-    requires store_value { S.ReadingSurface.mesh store.old ≡ first_triangles t (A.ReadingSurface.mesh from.now) }
+    requires triangle_there { t < triangle_total (A.ReadingSurface.mesh from.now) }
+    requires so_far { S.ReadingSurface.mesh store.old ≡ first_triangles t (A.ReadingSurface.mesh from.now) }
     ensures mesh { S.ReadingSurface.mesh store.new ≡ first_triangles (t + 1) (A.ReadingSurface.mesh from.now) }
     ensures room { SameRoom S.GrowingStore.vertex_room S.GrowingStore.triangle_room store.old store.new }
 {
@@ -44,7 +44,7 @@ fn copy_vertices<P: Place, A: ReadingSurface<Kind = P>, S: GrowingStore<Kind = P
     store: &mut S,
 )
     requires copyable { Copyable (S.GrowingStore.vertex_room store.old) (S.GrowingStore.triangle_room store.old) (A.ReadingSurface.mesh from.now) }
-    requires store_value { S.ReadingSurface.mesh store.old ≡ first_vertices 0 (A.ReadingSurface.mesh from.now) }
+    requires so_far { S.ReadingSurface.mesh store.old ≡ first_vertices 0 (A.ReadingSurface.mesh from.now) }
     ensures mesh { S.ReadingSurface.mesh store.new ≡ first_triangles 0 (A.ReadingSurface.mesh from.now) }
     ensures room { SameRoom S.GrowingStore.vertex_room S.GrowingStore.triangle_room store.old store.new }
 {
@@ -58,7 +58,7 @@ fn copy_triangles<P: Place, A: ReadingSurface<Kind = P>, S: GrowingStore<Kind = 
     store: &mut S,
 )
     requires copyable { Copyable (S.GrowingStore.vertex_room store.old) (S.GrowingStore.triangle_room store.old) (A.ReadingSurface.mesh from.now) }
-    requires store_value { S.ReadingSurface.mesh store.old ≡ first_triangles 0 (A.ReadingSurface.mesh from.now) }
+    requires so_far { S.ReadingSurface.mesh store.old ≡ first_triangles 0 (A.ReadingSurface.mesh from.now) }
     ensures mesh { S.ReadingSurface.mesh store.new ≡ A.ReadingSurface.mesh from.now }
     ensures room { SameRoom S.GrowingStore.vertex_room S.GrowingStore.triangle_room store.old store.new }
 {
@@ -73,7 +73,7 @@ pub(crate) fn copy_surface<P: Place, A: ReadingSurface<Kind = P>, S: GrowingStor
     store: &mut S,
 )
     requires copyable { Copyable (S.GrowingStore.vertex_room store.old) (S.GrowingStore.triangle_room store.old) (A.ReadingSurface.mesh from.now) }
-    requires store_value { S.ReadingSurface.mesh store.old ≡ first_vertices 0 (A.ReadingSurface.mesh from.now) }
+    requires so_far { S.ReadingSurface.mesh store.old ≡ first_vertices 0 (A.ReadingSurface.mesh from.now) }
     ensures mesh { S.ReadingSurface.mesh store.new ≡ A.ReadingSurface.mesh from.now }
     ensures room { SameRoom S.GrowingStore.vertex_room S.GrowingStore.triangle_room store.old store.new }
 {

@@ -9,7 +9,7 @@ use mesh::ReadingSurface;
 
 // The parent where its number is smaller, else the vertex.
 fn back_step<S: ReadingSurface>(store: &S, v: u32) -> u32
-    ensures { result ≡ back_step (parents (mesh store.now)) v }
+    ensures { result ≡ back_step (parents (S.mesh store.now)) v }
 {
     match store.parent(v) {
         Some(parent) => parent.min(v),
@@ -18,7 +18,7 @@ fn back_step<S: ReadingSurface>(store: &S, v: u32) -> u32
 }
 
 fn back_from<S: ReadingSurface>(store: &S, v: u32) -> u32
-    ensures { result ≡ led (parents (mesh store.now)) v }
+    ensures { result ≡ led (parents (S.mesh store.now)) v }
 {
     let mut at = v;
     for i in 0..v {
@@ -33,7 +33,7 @@ fn back_from<S: ReadingSurface>(store: &S, v: u32) -> u32
 
 // Where the vertex came from; none if there is no such vertex.
 pub(crate) fn follow_back<S: ReadingSurface>(store: &S, v: u32) -> Option<u32>
-    ensures { result ≡ ancestor (mesh store.now) v }
+    ensures { result ≡ ancestor (S.mesh store.now) v }
 {
     if v < store.vertex_count() {
         Some(back_from(store, v))

@@ -9,9 +9,9 @@ use crate::running::Running;
 impl Running {
     // A job whose base has these counts.
     pub(crate) fn start(vertices: u32, triangles: u32) -> Running
-        requires vertices_bound { vertices ≤ 16384 }
-        requires triangles_bound { triangles ≤ 32768 }
-        requires triangles_value { triangles % 2 ≡ 0 }
+        requires few_vertices { vertices ≤ 16384 }
+        requires few_triangles { triangles ≤ 32768 }
+        requires even { triangles % 2 ≡ 0 }
         ensures { job_of result ≡ fresh_numbers vertices triangles }
     {
         Running {

@@ -18,20 +18,20 @@ use survey::Counts;
 
 impl Running {
     pub fn vertex_count<S: ReadingSurface>(&self, store: &S) -> u32
-        ensures { result ≡ vertex_total (mesh store.now) }
+        ensures { result ≡ vertex_total (S.mesh store.now) }
     {
         store.vertex_count()
     }
 
     pub fn triangle_count<S: ReadingSurface>(&self, store: &S) -> u32
-        ensures { result ≡ triangle_total (mesh store.now) }
+        ensures { result ≡ triangle_total (S.mesh store.now) }
     {
         store.triangle_count()
     }
 
     // The corners of triangle t.
     pub fn triangle<S: ReadingSurface>(&self, store: &S, t: u32) -> Option<Triangle>
-        ensures { option_map tri_of result ≡ slice_get (mesh store.now).triangles t }
+        ensures { option_map tri_of result ≡ slice_get (S.mesh store.now).triangles t }
     {
         store.triangle(t)
     }
@@ -43,20 +43,20 @@ impl Running {
     }
 
     pub fn parent<S: ReadingSurface>(&self, store: &S, v: u32) -> Option<u32>
-        ensures { result ≡ parent_at (mesh store.now) v }
+        ensures { result ≡ parent_at (S.mesh store.now) v }
     {
         store.parent(v)
     }
 
     // The lowest triangle with the side u→v.
     pub fn side<S: ReadingSurface>(&self, store: &S, u: u32, v: u32) -> Option<u32>
-        ensures { result ≡ side_of (mesh store.now).triangles u v }
+        ensures { result ≡ side_of (S.mesh store.now).triangles u v }
     {
         store.side(u, v)
     }
 
     pub fn survey<S: ReadingSurface>(&self, store: &S) -> Result<Counts, Fault>
-        ensures { result ≡ surveyed (vertex_total (mesh store.now)) (mesh store.now).triangles }
+        ensures { result ≡ surveyed (vertex_total (S.mesh store.now)) (S.mesh store.now).triangles }
     {
         survey::survey(store)
     }
@@ -75,7 +75,7 @@ impl Running {
 
     // Where vertex v came from: to the parent, while its number is smaller.
     pub fn follow_back<S: ReadingSurface>(&self, store: &S, v: u32) -> Option<u32>
-        ensures { result ≡ ancestor (mesh store.now) v }
+        ensures { result ≡ ancestor (S.mesh store.now) v }
     {
         follow_back(store, v)
     }

@@ -6,9 +6,9 @@ pub returns-in-Some : goal.returns-in-Some
 returns-in-Some g c =
     let s = c.args.store.now in
     record {
-      mesh = vertex_taken (g.S.GrowingStore.vertex_room s) (g.S.GrowingStore.triangle_room s) (g.A.ReadingSurface.mesh c.args.from.now) (g.S.ReadingSurface.mesh s) _ c.args.v c.in-Some.place c.add_vertex.result c.requires.0 c.requires.1 c.requires.2 c.in-Some.ensures c.add_vertex.ensures.answer c.add_vertex.ensures.after;
+      mesh = vertex_taken (g.S.GrowingStore.vertex_room s) (g.S.GrowingStore.triangle_room s) (g.A.ReadingSurface.mesh c.args.from.now) (g.S.ReadingSurface.mesh s) _ c.args.v c.in-Some.place c.add_vertex.result c.requires.copyable c.requires.vertex_there c.requires.so_far c.in-Some.ensures c.add_vertex.ensures.answer c.add_vertex.ensures.after;
       room = c.add_vertex.ensures.room;
     }
 
 pub returns-in-default : goal.returns-in-default
-returns-in-default g c = absurd (place_there (g.A.ReadingSurface.mesh c.args.from.now) c.args.v c.requires.1 c.in-default.ensures)
+returns-in-default g c = absurd (place_there (g.A.ReadingSurface.mesh c.args.from.now) c.args.v c.requires.vertex_there c.in-default.ensures)

@@ -7,12 +7,12 @@ use Rattle.job.proofs.following.back_from.Goals as goal
 pub returns-then-next-at : goal.returns-then-next-at
 returns-then-next-at g c =
     let ps = parents (g.S.ReadingSurface.mesh c.args.store.now) in
-    sym (back_still ps (c.args.v - c.loop-i.i) c.loop-i.at (sym c.if-next-at.true ∙ c.back-step-next.ensures)) ∙ c.loop-i.invariant
+    sym (back_still ps (c.args.v - c.loop-i.i) c.loop-i.at (sym c.if-next-at.true ∙ c.back_step-next.ensures)) ∙ c.loop-i.invariant
 
 pub loop-i-preserved : goal.loop-i-preserved
 loop-i-preserved g c =
     let ps = parents (g.S.ReadingSurface.mesh c.args.store.now) in
-    sym (back_more ps c.args.v c.loop-i.i c.loop-i.at c.back-step-next.result (search rules) c.back-step-next.ensures) ∙ c.loop-i.invariant
+    sym (back_more ps c.args.v c.loop-i.i c.loop-i.at c.back_step-next.result (search rules) c.back_step-next.ensures) ∙ c.loop-i.invariant
 
 pub returns : goal.returns
 returns g c =
