@@ -1,5 +1,5 @@
 -- Worked cases.
-use Rattle.std.proofs.Common.{◌≡◌, refl}
+use Rattle.std.proofs.Common.{refl}
 use Rattle.forest.specs.Cases.{SplitCases}
 
 pub split_cases : SplitCases

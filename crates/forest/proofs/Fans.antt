@@ -1,8 +1,8 @@
 -- Fans of links, and the fan at each position of a part of a polygon.
-use Rattle.std.proofs.Common.{◌≡◌, ℕ, suc, ◌+◌, ◌-◌, ◌<◌, ◌≤◌, ◌⊎◌, List, [], ◌∷◌, ◌++◌, sym, refl, inl, inr, ⊎_elim, arith}
+use Rattle.std.proofs.Common.{◌≡◌, ℕ, suc, ◌<◌, ◌≤◌, ◌⊎◌, List, [], ◌∷◌, ◌++◌, sym, inl, inr, ⊎_elim, arith}
 use native.Mathlib.Decide.{dec_lt}
 use Rattle.mesh.specs.Triangles.{Tri, tri}
-use Rattle.mesh.specs.Rings.{Corner, at_first, at_second, at_third, Link, here, there, Walk, stop, step}
+use Rattle.mesh.specs.Rings.{at_first, at_second, at_third, Link, here, there, Walk, stop, step}
 use Rattle.forest.specs.Theorems.{Part, edge, node}
 use Rattle.mesh.proofs.Walks.{Rel, walk_append, walk_start, walk_end}
 use Rattle.mesh.proofs.Links.{Turned, turned}

@@ -1,5 +1,5 @@
 -- The loops and polygons of all trees.
-use Rattle.std.proofs.Common.{◌≡◌, ℕ, suc, ◌+◌, ◌-◌, ◌*◌, ◌<◌, ◌≤◌, Bool, true, false, cond, not, eqb, ◌⊎◌, List, [], ◌∷◌, ◌++◌, map, length, get_or, take, drop, sym, refl, ap, ◌∙◌, subst, inl, inr, ⊎_elim, arith, length-append}
+use Rattle.std.proofs.Common.{◌≡◌, ℕ, suc, ◌+◌, ◌-◌, ◌*◌, ◌<◌, ◌≤◌, true, cond, eqb, ◌⊎◌, List, [], ◌∷◌, ◌++◌, map, length, get_or, take, drop, sym, refl, ap, ◌∙◌, subst, inl, inr, ⊎_elim, arith, length-append}
 use lib.ListN.{length-map}
 use Rattle.mesh.specs.Lists.{Mem, now, later, Apart, no_one, one_more}
 use Rattle.mesh.specs.Triangles.{Tri}
@@ -8,14 +8,13 @@ use Rattle.mesh.specs.Edges.{two_way}
 use Rattle.mesh.specs.Rings.{Link}
 use Rattle.forest.specs.Trees.{label, start, tree_edges}
 use Rattle.forest.specs.Roots.{root, mirrored}
-use Rattle.forest.specs.Loops.{read_as, flipped, loop, loop_of, whole, positions, around, hop}
+use Rattle.forest.specs.Loops.{read_as, loop, loop_of, whole, positions, around, hop}
 use Rattle.forest.specs.Numbering.{renamed}
-use Rattle.forest.specs.Polygons.{Code, cut, open_part, closes, polygon, polygons}
+use Rattle.forest.specs.Polygons.{Code, cut, open_part, closes}
 use Rattle.forest.specs.Theorems.{Part}
 use Rattle.mesh.proofs.Members.{mem_cases, mem_left, mem_right, mem_split, apart_append}
 use Rattle.forest.proofs.Fans.{Fan, fan_same, link_left, link_right, link_cases, no_link}
-use Rattle.forest.proofs.Hops.{next, next_in, next_inj, hop_next, hop_inj}
-use Rattle.forest.proofs.Numbers.{Entry, number_of}
+use Rattle.forest.proofs.Hops.{next, next_in, hop_next, hop_inj}
 use Rattle.forest.proofs.Marking.{absent_out}
 use Rattle.forest.proofs.Labels.{Ours, InTree, tree_side, side_tree, two_way_length, root_mem}
 use Rattle.forest.proofs.Loops.{loop_length, nth_next, mem_nth, loop_all, loop_apart, loop_covers, loop_round}

@@ -19,9 +19,7 @@ use Rattle.forest.proofs.Labels.{Ours}
 use Rattle.forest.proofs.Checking.{Planted, Sewn, marks_apart, marks_edges, marks_rising, planted, sewn_well, twice_none}
 use Rattle.forest.proofs.Numbers.{entries, entry, number_new, number_of, numbered_form, numbered_side, parents_counted, unused_le}
 use Rattle.forest.proofs.Sewn.{fits, in_ours, led_all, number_origin, numbers_once, ours_in, ours_small, parents_old, sown_closed, ss_apart, triangles_counted, keeping, met, takes}
-use Rattle.forest.proofs.Renaming.{numbered}
 use Rattle.forest.proofs.Naming.{numbers_named}
-use Rattle.forest.proofs.Passing.{passed}
 use Rattle.forest.proofs.Vertices.{positions_counted, vertices_counted}
 use Rattle.forest.proofs.Marking.{touched_dec}
 use Rattle.forest.proofs.Hops.{next_hop}

@@ -1,11 +1,11 @@
 -- Marked edges, and tests on sides.
-use Rattle.std.proofs.Common.{◌≡◌, ℕ, Bool, true, false, not, ◌||◌, eqb, ◌⊎◌, List, [], ◌∷◌, sym, refl, ap, ◌∙◌, inl, inr, ⊎_elim, eq-eqb, eqb-true}
+use Rattle.std.proofs.Common.{◌≡◌, ℕ, Bool, true, false, not, eqb, List, [], ◌∷◌, sym, refl, ap, ◌∙◌, inl, inr, ⊎_elim, eq-eqb, eqb-true}
 use native.Mathlib.Decide.{ℕ_discrete}
 use borrow.Author.Tests.{not-true, clash}
 use Rattle.mesh.specs.Lists.{Mem, now, later, Apart, no_one, one_more}
 use Rattle.mesh.specs.Sides.{Side, side}
 use Rattle.forest.specs.Marks.{same_side, has_side, marked_edges, Marked, is_marked}
-use Rattle.mesh.proofs.Tests.{and_true, true_and, or_true, or_false, or_left, or_right, is_false}
+use Rattle.mesh.proofs.Tests.{and_true, true_and, or_true, or_left, or_right, is_false}
 use Rattle.mesh.proofs.Members.{mem_cases, mem_eq}
 
 pub same_true : (s t : Side) → same_side s t ≡ true → s ≡ t

@@ -1,5 +1,5 @@
 -- What labels, roots and trees mean.
-use Rattle.std.proofs.Common.{◌≡◌, ℕ, zero, suc, ◌-◌, ◌<◌, ◌≤◌, min, max, Bool, true, false, cond, ◌⊎◌, List, [], ◌∷◌, ◌++◌, length, filter, sym, refl, ap, ◌∙◌, inl, inr, ⊎_elim, arith, eqb-true}
+use Rattle.std.proofs.Common.{◌≡◌, ℕ, zero, suc, ◌<◌, ◌≤◌, min, max, Bool, true, false, cond, ◌⊎◌, List, [], ◌∷◌, ◌++◌, length, filter, sym, refl, ap, ◌∙◌, inl, inr, ⊎_elim, arith, eqb-true}
 use Rattle.mesh.specs.Lists.{Mem, now, later}
 use Rattle.mesh.specs.Sides.{Side, side}
 use Rattle.mesh.specs.Rings.{Walk, stop, step}

@@ -1,12 +1,12 @@
 -- The numbers of the positions.
-use Rattle.std.proofs.Common.{◌≡◌, ℕ, suc, ◌+◌, ◌-◌, ◌<◌, ◌≤◌, Bool, true, false, cond, eqb, ◌⊎◌, List, [], ◌∷◌, length, get_or, sym, refl, ap, ◌∙◌, inl, inr, ⊎_elim, arith, eqb-true}
+use Rattle.std.proofs.Common.{◌≡◌, ℕ, suc, ◌+◌, ◌<◌, ◌≤◌, Bool, true, false, cond, eqb, ◌⊎◌, List, [], ◌∷◌, length, get_or, sym, refl, ap, ◌∙◌, inl, inr, ⊎_elim, arith, eqb-true}
 use native.Mathlib.Decide.{ℕ_discrete}
 use borrow.Author.Tests.{eqb-false, clash}
 use Rattle.mesh.specs.Lists.{Mem, now, later, Apart, no_one, one_more}
 use Rattle.mesh.specs.Sides.{Side}
 use Rattle.forest.specs.Marks.{same_side}
 use Rattle.forest.specs.Trees.{start}
-use Rattle.forest.specs.Numbering.{has, numbers, unused, parents}
+use Rattle.forest.specs.Numbering.{has, unused, parents}
 use Rattle.mesh.proofs.Members.{mem_cases, mem_eq}
 use Rattle.mesh.proofs.Tests.{or_true, or_false}
 use Rattle.forest.proofs.Marking.{same_true, true_same}

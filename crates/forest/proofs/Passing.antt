@@ -1,21 +1,17 @@
 -- The new numbers of the corners: each run has that of its position.
-use Rattle.std.proofs.Common.{◌≡◌, ℕ, Bool, true, false, cond, ◌&&◌, eqb, ◌⊎◌, List, [], ◌∷◌, map, length, sym, refl, ap, ◌∙◌, subst, inl, inr, ⊎_elim, eq-eqb, eqb-true}
-use borrow.Author.Tests.{clash}
-use Rattle.mesh.specs.Lists.{Mem, now, later}
+use Rattle.std.proofs.Common.{◌≡◌, ℕ, Bool, true, false, cond, eqb, List, map, length, sym, refl, ap, ◌∙◌, subst, eq-eqb, eqb-true}
 use Rattle.mesh.specs.Triangles.{Tri}
 use Rattle.mesh.specs.Sides.{Side, side, back}
 use Rattle.forest.specs.Marks.{Marked, has_side}
-use Rattle.forest.specs.Trees.{label, start, end}
+use Rattle.forest.specs.Trees.{start, end}
 use Rattle.forest.specs.Roots.{mirrored}
 use Rattle.forest.specs.Loops.{flipped, read_as, hop, run_after}
-use Rattle.forest.specs.Numbering.{passes, corner_number}
-use Rattle.mesh.proofs.Links.{turned}
-use Rattle.mesh.proofs.Members.{mem_cases, mem_eq}
-use Rattle.mesh.proofs.Tests.{and_true, true_and, or_true, or_left, or_right}
-use Rattle.forest.proofs.Sectors.{Sector, On, corners, sector_same, sector_apart}
+use Rattle.forest.specs.Numbering.{passes}
+use Rattle.mesh.proofs.Members.{mem_eq}
+use Rattle.mesh.proofs.Tests.{and_true, true_and}
+use Rattle.forest.proofs.Sectors.{Sector, On, sector_same, sector_apart}
 use Rattle.forest.proofs.Marking.{Unmarked, marked_back, mem_has, has_mem}
-use Rattle.forest.proofs.Hops.{next, flag, turns, hop_goes, hop_start, nx, pr, nx_pr, pr_ours, pr_end, src, src_by, src_ours, src_end, src_flag, start_back}
-use Rattle.forest.proofs.Numbers.{Entry, number_of}
+use Rattle.forest.proofs.Hops.{flag, turns, hop_goes, hop_start, nx, pr, nx_pr, pr_ours, pr_end, src, src_by, src_ours, src_end, src_flag, start_back}
 use Rattle.forest.proofs.Labels.{label_edge, Ours}
 use Rattle.forest.proofs.Turning.{Good, good_read, EdgesIn, Turning, sector_mirror, on_mirror, link_read}
 

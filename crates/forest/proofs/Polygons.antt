@@ -4,7 +4,6 @@ use borrow.Author.Tests.{eqb-false, clash}
 use Rattle.mesh.specs.Lists.{Mem, Apart}
 use Rattle.mesh.specs.Triangles.{Tri}
 use Rattle.mesh.specs.Sides.{Side}
-use Rattle.mesh.specs.Edges.{before}
 use Rattle.mesh.specs.Rings.{Link, here, there}
 use Rattle.forest.specs.Loops.{read_as}
 use Rattle.forest.specs.Polygons.{Code, after, cut, open_part, closes}

@@ -1,9 +1,7 @@
 -- Rings where the corners have new numbers.
 use Rattle.std.proofs.Common.{◌≡◌, ℕ, ◌⊎◌, List, [], ◌∷◌, ◌++◌, map, sym, refl, inl, inr, ⊎_elim}
 use Rattle.mesh.specs.Triangles.{Tri, tri}
-use Rattle.mesh.specs.Edges.{before}
 use Rattle.mesh.specs.Rings.{Corner, at_first, at_second, at_third, Link, here, there, Walk, stop, step}
-use Rattle.forest.specs.Trees.{some}
 use Rattle.forest.specs.Numbering.{renamed}
 use Rattle.mesh.proofs.Walks.{Rel, walk_append, walk_start, walk_end}
 use Rattle.forest.proofs.Fans.{Fan, Sub, walk_sub, fan_none, fan_through, link_left, link_right, link_cases}

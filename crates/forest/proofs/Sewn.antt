@@ -1,20 +1,19 @@
 -- The split is a sewing, so that what it leaves is closed.
 use Rattle.std.proofs.Common.{◌≡◌, ℕ, ◌+◌, ◌-◌, ◌*◌, ◌<◌, ◌≤◌, Bool, true, false, cond, ◌⊎◌, List, [], ◌∷◌, ◌++◌, map, length, get_or, take, sym, refl, ap, ◌∙◌, subst, inl, inr, ⊎_elim, arith, length-append, le-ltb, lt-ltb}
 use lib.ListN.{length-map}
-use native.Mathlib.Decide.{dec_lt, ℕ_discrete}
-use Rattle.mesh.specs.Lists.{Mem, now, later, Apart}
+use native.Mathlib.Decide.{dec_lt}
+use Rattle.mesh.specs.Lists.{Mem, Apart}
 use Rattle.mesh.specs.Triangles.{Tri, tri}
-use Rattle.mesh.specs.Sides.{Side, side, back, sides}
+use Rattle.mesh.specs.Sides.{Side, side, sides}
 use Rattle.mesh.specs.Rings.{Link, here, there, at_first, at_second, at_third}
 use Rattle.mesh.specs.Closed.{Closed}
 use Rattle.forest.specs.Marks.{Marked}
 use Rattle.forest.specs.Trees.{label, start, end, trees}
 use Rattle.forest.specs.Roots.{mirrored}
 use Rattle.forest.specs.Loops.{positions}
-use Rattle.forest.specs.Numbering.{renamed, numbers, unused, corner_number}
+use Rattle.forest.specs.Numbering.{renamed, unused, corner_number}
 use Rattle.forest.specs.Polygons.{Code, polygons}
 use Rattle.forest.specs.Theorems.{origin, led_back}
-use Rattle.mesh.proofs.Members.{mem_cases}
 use Rattle.forest.proofs.Fans.{Fan, link_cases}
 use Rattle.forest.proofs.Sectors.{On}
 use Rattle.forest.proofs.Marking.{Unmarked, marked_dec, marked_back, touched_dec}

@@ -1,5 +1,5 @@
 -- The next marked side is there, and the mesh turned round leads back.
-use Rattle.std.proofs.Common.{◌≡◌, ℕ, zero, suc, ◌<◌, ◌≤◌, Bool, true, false, cond, not, ◌&&◌, eqb, ◌⊎◌, List, [], ◌∷◌, map, length, Some, sym, refl, ap, ◌∙◌, subst, inl, inr, ⊎_elim, arith, eq-eqb, eqb-true}
+use Rattle.std.proofs.Common.{◌≡◌, ℕ, zero, suc, ◌<◌, ◌≤◌, Bool, true, false, cond, not, ◌&&◌, eqb, ◌⊎◌, List, [], ◌∷◌, map, length, Some, sym, refl, ap, subst, inl, inr, ⊎_elim, arith, eq-eqb, eqb-true}
 use borrow.Author.Tests.{clash}
 use lib.ListN.{length-map}
 use Rattle.mesh.specs.Lists.{Mem}

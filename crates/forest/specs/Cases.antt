@@ -1,6 +1,5 @@
 -- Worked cases, proved by computation.
-use Rattle.std.specs.Prelude.{◌≡◌, ℕ, Bool, true, false, List, [], ◌∷◌, replicate, pos, negsuc, Some, None}
-use Rattle.std.specs.List.{slice_get}
+use Rattle.std.specs.Prelude.{◌≡◌, Bool, true, false, List, [], ◌∷◌, replicate, pos, negsuc, Some, None}
 use Rattle.fault.specs.declared.fault.Fault.TheVariants.{NoMark, MarkClosesLoop, SingleEdgeTree, CodeCount, CodesOffTree, SideTwice, NoDisplacedPlace}
 use Rattle.place.specs.declared.grid.Grid.{Grid}
 use Rattle.place.specs.declared.grid.GridDisplacement.{GridDisplacement}

@@ -1,5 +1,5 @@
 -- The marked edges of a mesh.
-use Rattle.std.specs.Prelude.{ℕ, Bool, true, false, cond, ◌&&◌, ◌||◌, ◌⊎◌, List, [], ◌∷◌, ◌==◌}
+use Rattle.std.specs.Prelude.{ℕ, Bool, false, cond, ◌&&◌, ◌||◌, ◌⊎◌, List, [], ◌∷◌, ◌==◌}
 use Rattle.mesh.specs.Lists.{Mem}
 use Rattle.mesh.specs.Sides.{Side, side}
 

@@ -1,5 +1,5 @@
 -- Step 4: the numbers of the positions, the parents of the new vertices, and the corners' new numbers.
-use Rattle.std.specs.Prelude.{ℕ, zero, suc, Bool, true, false, cond, ◌&&◌, ◌||◌, List, [], ◌∷◌, ◌++◌, take, drop, ◌==◌}
+use Rattle.std.specs.Prelude.{ℕ, suc, Bool, false, cond, ◌&&◌, ◌||◌, List, [], ◌∷◌, ◌++◌, take, drop, ◌==◌}
 use Rattle.mesh.specs.Triangles.{Tri, tri}
 use Rattle.mesh.specs.Sides.{Side, side}
 use Rattle.forest.specs.Marks.{has_side}

@@ -3,7 +3,7 @@ use Rattle.std.specs.Prelude.{ℕ, Bool, true, false, cond, not, ◌&&◌, ◌||
 use Rattle.mesh.specs.Triangles.{Tri}
 use Rattle.mesh.specs.Sides.{Side, side, side_of}
 use Rattle.mesh.specs.Edges.{two_way}
-use Rattle.forest.specs.Trees.{start, end, tree_edges}
+use Rattle.forest.specs.Trees.{start, tree_edges}
 
 -- the edge has the end v
 abbrev pub touches : ℕ → Side → Bool

@@ -97,7 +97,7 @@ pub fn twice_added() -> u8
 
 // The displacements move the places that the vertices had before, and no others; kept vertices keep their parents.
 pub fn places_moved<P: Place>() -> u8
-    ensures { PlacesMoved kind }
+    ensures { PlacesMoved P.Place.kind }
 {
     0
 }
