@@ -1,29 +1,28 @@
 -- The survey finds no fault exactly if the mesh is closed and within the limits.
-use Rattle.std.proofs.Common.{◌≡◌, ℕ, zero, suc, ◌+◌, ◌*◌, ◌<◌, ◌≤◌, Bool, true, false, cond, not, ◌&&◌, ◌||◌, ltb, leb, ◌⊎◌, List, [], ◌∷◌, length, is_some, Some, None, Ok, Err, Option, Result, sym, refl, ap, ◌∙◌, subst, inl, inr, ⊎_elim, arith, ltb-true, lt-ltb, le-leb, leb-true}
+use Rattle.std.proofs.Common.{◌≡◌, ℕ, zero, suc, ◌*◌, ◌<◌, ◌≤◌, true, false, not, ◌||◌, List, [], ◌∷◌, length, is_some, Some, None, Ok, Option, Result, sym, refl, ap, ◌∙◌, subst, inl, inr, ⊎_elim, arith, ltb-true, lt-ltb}
 use borrow.Author.Tests.{not-false, clash}
 use Rattle.std.specs.Option.{option_map}
 use Rattle.std.specs.List.{slice_get}
 use Rattle.fault.specs.declared.fault.Fault.{Fault}
-use Rattle.fault.specs.declared.fault.Fault.TheVariants.{BadCorners, RepeatedSide, OpenSide, NoSingleRing, SheetCounts}
-use Rattle.fault.specs.declared.fault.Count.TheVariants.{Vertices, Triangles}
+use Rattle.fault.specs.declared.fault.Fault.TheVariants.{BadCorners, RepeatedSide, OpenSide, NoSingleRing}
 use Rattle.fault.specs.Faults.{or_else}
 use Rattle.mesh.specs.Lists.{Mem, Apart, no_one, one_more}
 use Rattle.mesh.specs.Triangles.{Tri, tri}
 use Rattle.mesh.specs.Sides.{Side, side, back, sides, side_of}
-use Rattle.mesh.specs.Rings.{Corner, at_first, at_second, at_third, Link}
+use Rattle.mesh.specs.Rings.{Corner, at_first, at_second, at_third}
 use Rattle.mesh.specs.Closed.{Closed}
-use Rattle.mesh.specs.Limits.{between, counts_fault}
-use Rattle.mesh.proofs.Tests.{cond_true, is_false, and_true, true_and, or_false, or_left, or_right, false_or, some_inj, none_some}
+use Rattle.mesh.specs.Limits.{counts_fault}
+use Rattle.mesh.proofs.Tests.{is_false, or_false, or_left, or_right, false_or, some_inj, none_some}
 use Rattle.fault.proofs.Orders.{or_none, mapped_none}
 use Rattle.mesh.proofs.Bounds.{between_is, is_between, counts_none, none_counts}
 use Rattle.mesh.proofs.Members.{mem_cases}
-use Rattle.mesh.proofs.Links.{Turned, turned, link_side, side_link, At, link_nth, nth_link, Found, found, lowest}
+use Rattle.mesh.proofs.Links.{Turned, turned, link_side, side_link, link_nth, nth_link, found, lowest}
 use Rattle.mesh.proofs.Counting.{closed_sided, edges_half}
 use Rattle.survey.specs.Checks.{lower, has_lower, repeats, repeats_one, no_side, is_open, open_one, first_bad, first_repeated, first_open}
 use Rattle.survey.specs.Ringwalk.{ringed, unringed_at, first_unringed}
 use Rattle.survey.specs.declared.counts.Counts.{Counts}
 use Rattle.survey.specs.Survey.{shape_fault, survey_fault, edge_count, counted, counted_unless, surveyed}
-use Rattle.survey.specs.Theorems.{ClosedInLimits, SurveyExact, Different, Fits}
+use Rattle.survey.specs.Theorems.{ClosedInLimits, SurveyExact}
 use Rattle.mesh.proofs.Firsts.{first_none, none_first, none_all, all_none}
 use Rattle.survey.proofs.Fitting.{AllFit, none_bad, fit_none, fit_links, closed_fit, three_vertices}
 use Rattle.survey.proofs.Walked.{ring_right, ring_left}

@@ -1,13 +1,13 @@
 -- Triangles with three different corners that are vertices.
-use Rattle.std.proofs.Common.{◌≡◌, ℕ, zero, suc, ◌+◌, ◌<◌, ◌≤◌, Bool, true, false, not, ◌&&◌, eqb, ltb, ◌⊎◌, List, [], ◌∷◌, length, Some, None, Option, sym, refl, ap, ◌∙◌, inl, inr, arith, ltb-true, lt-ltb, ne_eqb}
+use Rattle.std.proofs.Common.{◌≡◌, ℕ, ◌<◌, ◌≤◌, true, not, ◌&&◌, eqb, ltb, List, [], ◌∷◌, length, Some, None, sym, refl, ap, ◌∙◌, inl, inr, arith, ltb-true, lt-ltb, ne_eqb}
 use borrow.Author.Tests.{eqb-false, not-true, not-false}
 use Rattle.std.specs.List.{slice_get}
 use Rattle.mesh.specs.Triangles.{Tri, tri}
 use Rattle.mesh.specs.Rings.{Corner, at_first, at_second, at_third, Link}
 use Rattle.mesh.specs.Closed.{Closed}
 use Rattle.mesh.proofs.Tests.{and_true, true_and}
-use Rattle.mesh.proofs.Links.{Turned, turned, At, link_nth, nth_link}
-use Rattle.survey.specs.Checks.{good_corners, bad_one, bad_at, first_bad}
+use Rattle.mesh.proofs.Links.{Turned, turned, link_nth, nth_link}
+use Rattle.survey.specs.Checks.{good_corners, bad_one, first_bad}
 use Rattle.survey.specs.Tables.{Below}
 use Rattle.survey.specs.Theorems.{Different, Fits}
 use Rattle.mesh.proofs.Firsts.{none_all, all_none}

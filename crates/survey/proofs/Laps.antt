@@ -1,5 +1,5 @@
 -- A lap of a relation: from x to a, and not by a before.
-use Rattle.std.proofs.Common.{◌≡◌, ℕ, zero, suc, ◌+◌, ◌<◌, ◌≤◌, ◌⊎◌, List, [], ◌∷◌, length, sym, refl, ap, ◌∙◌, inl, inr, ⊎_elim, arith}
+use Rattle.std.proofs.Common.{◌≡◌, ℕ, suc, ◌≤◌, List, [], ◌∷◌, length, sym, refl, ap, ⊎_elim, arith}
 use native.Mathlib.Decide.{ℕ_discrete}
 use Rattle.mesh.specs.Lists.{Mem, now, later, Apart, no_one, one_more}
 use Rattle.mesh.specs.Rings.{Walk, stop, step, OneRing}

@@ -1,5 +1,5 @@
 -- One turn of the walk round a vertex.
-use Rattle.std.proofs.Common.{◌≡◌, ℕ, zero, suc, ◌+◌, ◌-◌, ◌<◌, ◌≤◌, Bool, true, false, cond, eqb, List, Some, None, Option, sym, refl, ap, ◌∙◌, arith, eq-eqb, ne_eqb}
+use Rattle.std.proofs.Common.{◌≡◌, ℕ, suc, ◌+◌, ◌-◌, ◌<◌, ◌≤◌, Bool, false, eqb, List, Some, None, Option, refl, ap, ◌∙◌, arith, eq-eqb, ne_eqb}
 use Rattle.mesh.specs.Triangles.{Tri}
 use Rattle.mesh.proofs.Tests.{cond_true, cond_false}
 use Rattle.survey.specs.Ringwalk.{ring_step, comes_round}

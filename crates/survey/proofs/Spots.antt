@@ -1,5 +1,5 @@
 -- Each refusal's spot is the lowest that has the fault.
-use Rattle.std.proofs.Common.{◌≡◌, ℕ, ◌+◌, ◌<◌, ◌≤◌, Bool, true, false, cond, not, ◌||◌, ◌⊎◌, List, length, is_some, Some, None, Option, sym, refl, ap, ◌∙◌, inl, inr, ⊎_elim, arith}
+use Rattle.std.proofs.Common.{◌≡◌, ℕ, Bool, true, false, cond, not, ◌||◌, List, length, Some, None, Option, sym, refl, ap, ◌∙◌, ⊎_elim, arith}
 use borrow.Author.Tests.{not-true, not-false, clash}
 use Rattle.std.specs.Option.{option_map}
 use Rattle.std.specs.List.{slice_get}
@@ -12,12 +12,12 @@ use Rattle.mesh.specs.Sides.{side_of}
 use Rattle.mesh.specs.Rings.{Corner, at_first, at_second, at_third}
 use Rattle.mesh.specs.Limits.{between, counts_fault}
 use Rattle.mesh.proofs.Tests.{or_true, some_inj, none_some}
-use Rattle.mesh.proofs.Links.{Found, found}
+use Rattle.mesh.proofs.Links.{found}
 use Rattle.survey.specs.Checks.{bad_one, bad_at, has_lower, repeats, repeats_one, repeats_at, no_side, is_open, open_one, open_at, first_bad, first_repeated, first_open}
 use Rattle.survey.specs.Ringwalk.{ringed, unringed_at, first_unringed}
-use Rattle.survey.specs.Survey.{shape_fault, survey_fault}
+use Rattle.survey.specs.Survey.{survey_fault}
 use Rattle.survey.specs.Theorems.{Fits, Unfit, Repeats, Open, Ringless, Lowest, SpotsMean}
-use Rattle.mesh.proofs.Firsts.{First, first_some}
+use Rattle.mesh.proofs.Firsts.{first_some}
 use Rattle.survey.proofs.Fitting.{good_fits, fits_good}
 use Rattle.survey.proofs.Walked.{ring_right, ring_left}
 use Rattle.survey.proofs.Exact.{true_lower, repeats_found, open_parts, found_side, side_found, Sound, sound_sides}

@@ -1,5 +1,5 @@
 -- The walk round a vertex is a lap of its links.
-use Rattle.std.proofs.Common.{◌≡◌, ℕ, zero, suc, ◌+◌, ◌-◌, ◌<◌, ◌≤◌, Bool, true, false, cond, ◌||◌, eqb, ◌⊎◌, List, [], ◌∷◌, length, Some, None, Option, sym, refl, ap, ◌∙◌, inl, inr, ⊎_elim, arith, eq-eqb, ne_eqb, eqb-true}
+use Rattle.std.proofs.Common.{◌≡◌, ℕ, zero, suc, ◌+◌, ◌-◌, ◌<◌, Bool, true, false, cond, ◌||◌, eqb, ◌⊎◌, List, [], ◌∷◌, length, Some, None, Option, sym, refl, ap, ◌∙◌, inl, inr, ⊎_elim, arith, eq-eqb, ne_eqb, eqb-true}
 use native.Mathlib.Decide.{ℕ_discrete}
 use borrow.Author.Tests.{eqb-false, clash}
 use Rattle.std.specs.Option.{option_map}
@@ -11,11 +11,11 @@ use Rattle.mesh.specs.Rings.{Corner, at_first, at_second, at_third, Link, OneRin
 use Rattle.mesh.proofs.Tests.{cond_true, cond_false, or_false, some_inj, none_some}
 use Rattle.mesh.proofs.Members.{mem_cases}
 use Rattle.mesh.proofs.Walks.{Sharp}
-use Rattle.mesh.proofs.Links.{Turned, turned, corner_is, link_turn, link_side, side_link, sharp_once, At, link_nth, nth_link, Found, found, lowest}
+use Rattle.mesh.proofs.Links.{Turned, turned, corner_is, link_turn, link_side, side_link, sharp_once, link_nth, nth_link, found, lowest}
 use Rattle.survey.specs.Ringwalk.{second_of, third_of, third_at, ring_step, comes_round, corners_in, corners_one, corners_to, touches, last_one, last_to, ring_at, ring_from, ringed}
-use Rattle.survey.specs.Theorems.{Different, Fits, RingWalkExact}
+use Rattle.survey.specs.Theorems.{Fits, RingWalkExact}
 use Rattle.survey.proofs.Fitting.{AllFit}
-use Rattle.survey.proofs.Rounds.{on_from, round_suc}
+use Rattle.survey.proofs.Rounds.{round_suc}
 use Rattle.survey.proofs.Laps.{Lap, home, on, lap_reaches, reaches_lap}
 
 -- the third corner, with corners that differ

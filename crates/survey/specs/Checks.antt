@@ -1,5 +1,5 @@
 -- The checks of single triangles: their corners, and their sides against those of all triangles.
-use Rattle.std.specs.Prelude.{ℕ, Bool, true, false, not, ◌&&◌, ◌||◌, List, length, is_some, Some, None, Option, nat_lt}
+use Rattle.std.specs.Prelude.{ℕ, Bool, false, not, ◌&&◌, ◌||◌, List, length, is_some, Some, None, Option, nat_lt}
 use Rattle.std.specs.List.{slice_get}
 use Rattle.mesh.specs.Triangles.{Tri, tri}
 use Rattle.mesh.specs.Growth.{all_below, different}

@@ -1,12 +1,12 @@
 -- The ring at a vertex, decided by walking round it once.
-use Rattle.std.specs.Prelude.{ℕ, zero, suc, ◌+◌, ◌-◌, Bool, true, false, cond, not, ◌||◌, List, length, Some, None, Option, ◌==◌}
+use Rattle.std.specs.Prelude.{ℕ, zero, suc, ◌+◌, ◌-◌, Bool, false, cond, not, ◌||◌, List, length, Some, None, Option, ◌==◌}
 use Rattle.std.specs.Option.{option_map}
 use Rattle.std.specs.List.{slice_get}
 use Rattle.mesh.specs.Triangles.{Tri, tri}
 use Rattle.mesh.specs.Sides.{side_of}
 use Rattle.mesh.specs.Searches.{first_in}
 
--- read from its corner v, the triangle is (v, second-of, third_of)
+-- read from its corner v, the triangle is (v, second_of, third_of)
 abbrev pub second_of : ℕ → Tri → ℕ
 second_of v (tri a b c) = cond (a == v) b (cond (b == v) c a)
 

@@ -7,7 +7,7 @@ use crate::checks::{bad_at, open_at, repeats_at};
 use mesh::ReadingSurface;
 
 pub(crate) fn first_bad<S: ReadingSurface>(s: &S) -> Option<u32>
-    ensures { result ≡ first_bad (vertex_total (mesh s.now)) (mesh s.now).triangles }
+    ensures { result ≡ first_bad (vertex_total (S.mesh s.now)) (S.mesh s.now).triangles }
 {
     let vertices = s.vertex_count();
     for i in 0..s.triangle_count() {
@@ -19,7 +19,7 @@ pub(crate) fn first_bad<S: ReadingSurface>(s: &S) -> Option<u32>
 }
 
 pub(crate) fn first_repeated<S: ReadingSurface>(s: &S) -> Option<u32>
-    ensures { result ≡ first_repeated (mesh s.now).triangles }
+    ensures { result ≡ first_repeated (S.mesh s.now).triangles }
 {
     for i in 0..s.triangle_count() {
         if repeats_at(s, i) {
@@ -30,7 +30,7 @@ pub(crate) fn first_repeated<S: ReadingSurface>(s: &S) -> Option<u32>
 }
 
 pub(crate) fn first_open<S: ReadingSurface>(s: &S) -> Option<u32>
-    ensures { result ≡ first_open (mesh s.now).triangles }
+    ensures { result ≡ first_open (S.mesh s.now).triangles }
 {
     for i in 0..s.triangle_count() {
         if open_at(s, i) {

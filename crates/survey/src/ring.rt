@@ -33,7 +33,7 @@ fn third_of(v: u32, t: Triangle) -> u32
 }
 
 fn third_at<S: ReadingSurface>(s: &S, v: u32, i: u32) -> Option<u32>
-    ensures { result ≡ option_map (third_of v) (slice_get (mesh s.now).triangles i) }
+    ensures { result ≡ option_map (third_of v) (slice_get (S.mesh s.now).triangles i) }
 {
     match s.triangle(i) {
         Some(t) => Some(third_of(v, t)),
@@ -43,7 +43,7 @@ fn third_at<S: ReadingSurface>(s: &S, v: u32, i: u32) -> Option<u32>
 
 // The step from the triangle with the side v→x to the next one round v.
 fn ring_step<S: ReadingSurface>(s: &S, v: u32, x: u32) -> Option<u32>
-    ensures { result ≡ ring_step (mesh s.now).triangles v x }
+    ensures { result ≡ ring_step (S.mesh s.now).triangles v x }
 {
     match s.side(v, x) {
         Some(i) => third_at(s, v, i),
@@ -53,7 +53,7 @@ fn ring_step<S: ReadingSurface>(s: &S, v: u32, x: u32) -> Option<u32>
 
 // Whether the steps round v from b come to a after n of them and not before.
 fn comes_round<S: ReadingSurface>(s: &S, v: u32, a: u32, n: u32, b: u32) -> bool
-    ensures { result ≡ comes_round (mesh s.now).triangles v a n b }
+    ensures { result ≡ comes_round (S.mesh s.now).triangles v a n b }
 {
     let mut x = b;
     for i in 0..n {
@@ -70,7 +70,7 @@ fn comes_round<S: ReadingSurface>(s: &S, v: u32, a: u32, n: u32, b: u32) -> bool
 
 // Whether the n corners at v form one ring, walked from the triangle l.
 pub(crate) fn ring_from<S: ReadingSurface>(s: &S, v: u32, n: u32, l: u32) -> bool
-    ensures { result ≡ ring_from (mesh s.now).triangles v n l }
+    ensures { result ≡ ring_from (S.mesh s.now).triangles v n l }
 {
     if n == 0 {
         return false;

@@ -14,8 +14,8 @@ pub(crate) fn zeros() -> [u32; 16384]
 }
 
 fn bump(xs: &mut [u32; 16384], v: u32)
-    requires v_bound { v < 16384 }
-    requires v_bound_2 { slice_index xs.old v < 100000 }
+    requires vertex_in_range { v < 16384 }
+    requires room { slice_index xs.old v < 100000 }
     ensures { xs.new ≡ slice_set xs.old v (slice_index xs.old v + 1) }
 {
     xs[v as usize] += 1;
@@ -41,11 +41,11 @@ fn put_all(xs: &mut [u32; 16384], t: Triangle, i: u32)
 }
 
 pub(crate) fn tally<S: ReadingSurface>(s: &S, counts: &mut [u32; 16384], lasts: &mut [u32; 16384])
-    requires s_value { first_bad (vertex_total (mesh s.now)) (mesh s.now).triangles ≡ None }
-    requires zero { Zero counts.old }
-    requires zero_2 { Zero lasts.old }
-    ensures counted { Counted (mesh s.now).triangles (triangle_total (mesh s.now)) counts.new }
-    ensures seen { Seen (mesh s.now).triangles (triangle_total (mesh s.now)) lasts.new }
+    requires corners_good { first_bad (vertex_total (S.mesh s.now)) (S.mesh s.now).triangles ≡ None }
+    requires counts_zero { Zero counts.old }
+    requires lasts_zero { Zero lasts.old }
+    ensures counted { Counted (S.mesh s.now).triangles (triangle_total (S.mesh s.now)) counts.new }
+    ensures seen { Seen (S.mesh s.now).triangles (triangle_total (S.mesh s.now)) lasts.new }
 {
     for i in 0..s.triangle_count() {
         if let Some(t) = s.triangle(i) {

@@ -16,8 +16,8 @@ use mesh::{ReadingSurface, count_fault};
 
 // The checks behind that of the corners.
 fn side_fault<S: ReadingSurface>(s: &S) -> Option<Fault>
-    requires { first_bad (vertex_total (mesh s.now)) (mesh s.now).triangles ≡ None }
-    ensures { result ≡ or_else (option_map RepeatedSide (first_repeated (mesh s.now).triangles)) (or_else (option_map OpenSide (first_open (mesh s.now).triangles)) (option_map NoSingleRing (first_unringed (vertex_total (mesh s.now)) (mesh s.now).triangles))) }
+    requires { first_bad (vertex_total (S.mesh s.now)) (S.mesh s.now).triangles ≡ None }
+    ensures { result ≡ or_else (option_map RepeatedSide (first_repeated (S.mesh s.now).triangles)) (or_else (option_map OpenSide (first_open (S.mesh s.now).triangles)) (option_map NoSingleRing (first_unringed (vertex_total (S.mesh s.now)) (S.mesh s.now).triangles))) }
 {
     if let Some(t) = first_repeated(s) {
         return Some(Fault::RepeatedSide(t));
@@ -32,7 +32,7 @@ fn side_fault<S: ReadingSurface>(s: &S) -> Option<Fault>
 }
 
 fn shape_fault<S: ReadingSurface>(s: &S) -> Option<Fault>
-    ensures { result ≡ shape_fault (vertex_total (mesh s.now)) (mesh s.now).triangles }
+    ensures { result ≡ shape_fault (vertex_total (S.mesh s.now)) (S.mesh s.now).triangles }
 {
     match first_bad(s) {
         Some(t) => Some(Fault::BadCorners(t)),
@@ -41,7 +41,7 @@ fn shape_fault<S: ReadingSurface>(s: &S) -> Option<Fault>
 }
 
 fn survey_fault<S: ReadingSurface>(s: &S) -> Option<Fault>
-    ensures { result ≡ survey_fault (vertex_total (mesh s.now)) (mesh s.now).triangles }
+    ensures { result ≡ survey_fault (vertex_total (S.mesh s.now)) (S.mesh s.now).triangles }
 {
     match count_fault(s.vertex_count(), s.triangle_count()) {
         Some(fault) => Some(fault),
@@ -65,8 +65,8 @@ fn count(vertices: u32, edges: u32, triangles: u32) -> Counts
 
 // A closed mesh has three edges for two triangles.
 fn count_edges<S: ReadingSurface>(s: &S) -> u32
-    requires { survey_fault (vertex_total (mesh s.now)) (mesh s.now).triangles ≡ None }
-    ensures value { result ≡ edge_count (mesh s.now).triangles }
+    requires { survey_fault (vertex_total (S.mesh s.now)) (S.mesh s.now).triangles ≡ None }
+    ensures value { result ≡ edge_count (S.mesh s.now).triangles }
     ensures bound { result ≤ 49152 }
 {
     3 * s.triangle_count() / 2
@@ -74,7 +74,7 @@ fn count_edges<S: ReadingSurface>(s: &S) -> u32
 
 // The counts of a closed mesh, or the first fault.
 pub fn survey<S: ReadingSurface>(s: &S) -> Result<Counts, Fault>
-    ensures { result ≡ surveyed (vertex_total (mesh s.now)) (mesh s.now).triangles }
+    ensures { result ≡ surveyed (vertex_total (S.mesh s.now)) (S.mesh s.now).triangles }
 {
     match survey_fault(s) {
         Some(fault) => Err(fault),

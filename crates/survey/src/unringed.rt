@@ -15,10 +15,10 @@ fn unringed_at<S: ReadingSurface>(
     lasts: &[u32; 16384],
     v: u32,
 ) -> bool
-    requires v_bound { v < 16384 }
-    requires counted { Counted (mesh s.now).triangles (triangle_total (mesh s.now)) counts.now }
-    requires seen { Seen (mesh s.now).triangles (triangle_total (mesh s.now)) lasts.now }
-    ensures { result ≡ unringed_at (mesh s.now).triangles v }
+    requires vertex_in_range { v < 16384 }
+    requires counted { Counted (S.mesh s.now).triangles (triangle_total (S.mesh s.now)) counts.now }
+    requires seen { Seen (S.mesh s.now).triangles (triangle_total (S.mesh s.now)) lasts.now }
+    ensures { result ≡ unringed_at (S.mesh s.now).triangles v }
 {
     !ring_from(s, v, counts[v as usize], lasts[v as usize])
 }
@@ -28,9 +28,9 @@ fn first_unringed_by<S: ReadingSurface>(
     counts: &[u32; 16384],
     lasts: &[u32; 16384],
 ) -> Option<u32>
-    requires counted { Counted (mesh s.now).triangles (triangle_total (mesh s.now)) counts.now }
-    requires seen { Seen (mesh s.now).triangles (triangle_total (mesh s.now)) lasts.now }
-    ensures { result ≡ first_unringed (vertex_total (mesh s.now)) (mesh s.now).triangles }
+    requires counted { Counted (S.mesh s.now).triangles (triangle_total (S.mesh s.now)) counts.now }
+    requires seen { Seen (S.mesh s.now).triangles (triangle_total (S.mesh s.now)) lasts.now }
+    ensures { result ≡ first_unringed (vertex_total (S.mesh s.now)) (S.mesh s.now).triangles }
 {
     for i in 0..s.vertex_count() {
         if unringed_at(s, counts, lasts, i) {
@@ -42,8 +42,8 @@ fn first_unringed_by<S: ReadingSurface>(
 
 // Where no triangle has bad corners.
 pub(crate) fn first_unringed<S: ReadingSurface>(s: &S) -> Option<u32>
-    requires { first_bad (vertex_total (mesh s.now)) (mesh s.now).triangles ≡ None }
-    ensures { result ≡ first_unringed (vertex_total (mesh s.now)) (mesh s.now).triangles }
+    requires { first_bad (vertex_total (S.mesh s.now)) (S.mesh s.now).triangles ≡ None }
+    ensures { result ≡ first_unringed (vertex_total (S.mesh s.now)) (S.mesh s.now).triangles }
 {
     let mut counts = zeros();
     let mut lasts = zeros();

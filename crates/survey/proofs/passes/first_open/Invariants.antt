@@ -1,5 +1,4 @@
 use Rattle.std.proofs.Common.{◌≡◌, ◌-◌, length}
-use Rattle.mesh.specs.Meshes.{vertex_total}
 use Rattle.mesh.specs.Searches.{first_in}
 use Rattle.survey.specs.Checks.{open_at}
 use Rattle.survey.proofs.passes.first_open.Given as goal

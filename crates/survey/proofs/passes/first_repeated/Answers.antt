@@ -3,9 +3,9 @@ use Rattle.survey.specs.Checks.{first_repeated}
 use Rattle.mesh.proofs.Firsts.{first_more, first_here, first_all}
 use Rattle.survey.proofs.passes.first_repeated.Goals as goal
 
-pub returns-then-repeats-at : goal.returns-then-repeats-at
+pub returns-then-repeats_at : goal.returns-then-repeats_at
 unfolding first_repeated
-returns-then-repeats-at g c = search (rules, first_here)
+returns-then-repeats_at g c = search (rules, first_here)
 
 pub loop-i-preserved : goal.loop-i-preserved
 loop-i-preserved g c = search (rules, first_more)

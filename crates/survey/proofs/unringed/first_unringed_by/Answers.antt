@@ -3,9 +3,9 @@ use Rattle.survey.specs.Ringwalk.{first_unringed}
 use Rattle.mesh.proofs.Firsts.{first_more, first_here, first_all}
 use Rattle.survey.proofs.unringed.first_unringed_by.Goals as goal
 
-pub returns-then-unringed-at : goal.returns-then-unringed-at
+pub returns-then-unringed_at : goal.returns-then-unringed_at
 unfolding first_unringed
-returns-then-unringed-at g c = search (rules, first_here)
+returns-then-unringed_at g c = search (rules, first_here)
 
 pub loop-i-preserved : goal.loop-i-preserved
 loop-i-preserved g c = search (rules, first_more)
