@@ -7,7 +7,7 @@ use crate::chain::ChainStore;
 use crate::chain_record::{ChainTables, ChainTriangle, ChainVertex};
 use crate::fits::{corner_fits, triangle_fits, triangle_room, vertex_fits, vertex_room};
 use crate::stored::stored_vertex;
-use mesh::{GrowingStore, ReadingSurface, Triangle};
+use mesh::{GrowingStore, Triangle};
 use place::Place;
 use std::marker::PhantomData;
 

@@ -5,5 +5,5 @@ use Rattle.stores.proofs.stored.stored_vertex.Goals as goal
 pub returns : goal.returns
 returns g c =
     let k = g.P.Place.kind in
-    let back = ap k.read c.to-bytes-place.ensures.value ∙ g.met.P.Place.lawful.reads_back c.args.place _ c.to-bytes-place.ensures.held in
+    let back = ap k.read c.to_bytes-place.ensures.value ∙ g.met.P.Place.lawful.reads_back c.args.place _ c.to_bytes-place.ensures.held in
     ap (λ o. vertex_of (unwrap_or o k.origin) c.args.parent) back

@@ -15,6 +15,6 @@ returns g c =
     let h : s.vertex_count ≤ length s.tables.vertices.now = search rules in
     record {
       answer = search (rules, below_front);
-      after = same_mesh refl (front_changed (chained_in g.P.Place.kind) (with_place c.args.place) s.vertex_count s.tables.vertices.now c.args.v _ no_vertex c.if-i-self.false h c.stored-vertex.ensures);
+      after = same_mesh refl (front_changed (chained_in g.P.Place.kind) (with_place c.args.place) s.vertex_count s.tables.vertices.now c.args.v _ no_vertex c.if-i-self.false h c.stored_vertex.ensures);
       room = (ap (λ z. min z 16384) (length-set s.tables.vertices.now c.args.v _), refl);
     }

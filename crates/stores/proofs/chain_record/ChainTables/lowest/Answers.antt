@@ -9,14 +9,14 @@ use Rattle.stores.proofs.chain_record.ChainTables.lowest.Goals as goal
 pub loop-link-init : goal.loop-link-init
 loop-link-init c = (rest_starts c.args.self.now.triangles.now _ _ c.args.u c.requires.ends c.requires.holds, refl)
 
-pub overflow-cast-i : goal.overflow-cast-i
-overflow-cast-i c = let h : c.loop-link.link - 1 < 3 * c.args.n = rest_low _ _ _ c.loop-link.invariant.0 c.loop-link-test.true in omega arith
+pub overflow_cast-i : goal.overflow_cast-i
+overflow_cast-i c = let h : c.loop-link.link - 1 < 3 * c.args.n = rest_low _ _ _ c.loop-link.invariant.0 c.loop-link-test.true in omega arith
 
 pub triangle-t-requires : goal.triangle-t-requires
 triangle-t-requires c = let h : c.loop-link.link - 1 < 3 * c.args.n = rest_low _ _ _ c.loop-link.invariant.0 c.loop-link-test.true in omega arith
 
-pub overflow-cast-i-in-loop-link : goal.overflow-cast-i-in-loop-link
-overflow-cast-i-in-loop-link c = let h : c.loop-link.link - 1 < 3 * c.args.n = rest_low _ _ _ c.loop-link.invariant.0 c.loop-link-test.true in omega arith
+pub overflow_cast-i-in-loop-link : goal.overflow_cast-i-in-loop-link
+overflow_cast-i-in-loop-link c = let h : c.loop-link.link - 1 < 3 * c.args.n = rest_low _ _ _ c.loop-link.invariant.0 c.loop-link-test.true in omega arith
 
 pub corner-link-requires : goal.corner-link-requires
 corner-link-requires c = let h : c.loop-link.link - 1 < 3 * c.args.n = rest_low _ _ _ c.loop-link.invariant.0 c.loop-link-test.true in omega arith
@@ -27,7 +27,7 @@ loop-link-preserved c =
     let rs = c.args.self.now.triangles.now in
     let at = (c.loop-link.link - 1) / 3 in
     let q = rest_more (next_at rs) _ _ _ i.0 c.loop-link-test.true (ap (λ x. x.next) c.corner-link.ensures) in
-    let has = c.is-some.ensures ∙ ap is_some (c.side-corner.ensures ∙ ap (corner_of c.args.u c.args.v) c.triangle-t.ensures) in (
+    let has = c.is_some.ensures ∙ ap is_some (c.side_corner.ensures ∙ ap (corner_of c.args.u c.args.v) c.triangle-t.ensures) in (
       q.0,
       ap (lowest_along rs c.args.u c.args.v q.0.rest) (c.lower-best.ensures ∙ ap (λ b. lower c.loop-link.best b at) has)
           ∙ sym (ap (λ z. lowest_along rs c.args.u c.args.v z c.loop-link.best) q.1) ∙ i.1,

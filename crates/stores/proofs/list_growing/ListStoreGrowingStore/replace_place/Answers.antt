@@ -14,6 +14,6 @@ returns g c =
     let h : s.vertex_count ≤ length s.vertices.now = search rules in
     record {
       answer = search (rules, below_front);
-      after = same_mesh refl (front_changed (vertex_in g.P.Place.kind) (with_place c.args.place) s.vertex_count s.vertices.now c.args.v c.stored-vertex.result no_record c.if-i-self.false h c.stored-vertex.ensures);
+      after = same_mesh refl (front_changed (vertex_in g.P.Place.kind) (with_place c.args.place) s.vertex_count s.vertices.now c.args.v c.stored_vertex.result no_record c.if-i-self.false h c.stored_vertex.ensures);
       room = (ap (λ z. min z 16384) (length-set s.vertices.now c.args.v _), refl);
     }
