@@ -1,5 +1,5 @@
 -- Proof that the mesh of a sheet is within the limits. It stands here since the surface shows it by a ghost member, which may not cite proofs/.
-use Rattle.std.specs.Prelude.{◌≡◌, ℕ, ◌+◌, ◌*◌, ◌<◌, ◌≤◌, Bool, true, false, cond, ◌&&◌, List, map, length, Some, None, Option, ◌==◌, nat_le, slice_index, slice_index_or, refl}
+use Rattle.std.specs.Prelude.{◌≡◌, ℕ, ◌+◌, ◌*◌, ◌<◌, ◌≤◌, Bool, true, false, cond, ◌&&◌, List, map, length, Some, None, Option, ◌==◌, nat_le, slice_index, refl}
 use Rattle.std.proofs.Common.{sym, ap, ◌∙◌, arith, eqb-true, leb-true}
 use Rattle.fault.specs.declared.fault.Fault.{Fault}
 use Rattle.fault.specs.Faults.{or_else}
@@ -18,8 +18,8 @@ use Rattle.sheet.specs.Content.{triangle_in, vertex_in, count_unless, vertices_i
 pub record Right {P D : Type 0} (k : Kind P D) (bs : List ℕ) : Type 0 where
   pub long : 14 ≤ length bs
   pub length_field : word bs 0 + 4 ≡ length bs
-  pub version : slice_index_or bs 4 0 ≡ 1
-  pub kind : slice_index_or bs 5 0 ≡ k.byte
+  pub version : slice_index bs 4 ≡ 1
+  pub kind : slice_index bs 5 ≡ k.byte
   pub few_vertices : vertices_of bs ≤ 16384
   pub few_triangles : triangles_of bs ≤ 32768
   pub size : sheet_size k.width (vertices_of bs) (triangles_of bs) ≡ length bs

@@ -1,5 +1,5 @@
 -- What the bytes of a sheet mean.
-use Rattle.std.specs.Prelude.{◌≡◌, ℕ, ◌+◌, ◌<◌, Bool, not, List, map, length, drop, is_some, Some, None, Option, slice_index_or}
+use Rattle.std.specs.Prelude.{◌≡◌, ℕ, ◌+◌, ◌<◌, Bool, not, List, map, length, drop, is_some, Some, None, Option, slice_index}
 use Rattle.std.specs.List.{range_with_len, slice_get}
 use Rattle.std.specs.Option.{option_map, unwrap_or}
 use Rattle.fault.specs.declared.fault.Fault.{Fault}
@@ -55,13 +55,13 @@ sheet_fault k bs = or_else (layout_fault k bs) (place_fault k bs)
 
 -- the same with a store's capacities between the two
 abbrev pub sheet_fault_within : {P D : Type 0} → Kind P D → ℕ → ℕ → List ℕ → Option Fault
-sheet_fault_within k vertex-capacity triangle-capacity bs = or_else (layout_fault k bs) (or_else (capacity_fault vertex-capacity triangle-capacity bs) (place_fault k bs))
+sheet_fault_within k vertex_capacity triangle_capacity bs = or_else (layout_fault k bs) (or_else (capacity_fault vertex_capacity triangle_capacity bs) (place_fault k bs))
 
 -- The bytes are laid out as the sheet of a mesh: a length of what follows, version 1, the kind, both counts, the places, the triangles.
 pub record LaidOut {P D : Type 0} (k : Kind P D) (bs : List ℕ) (m : Mesh P) : Type 0 where
   pub length_field : word bs 0 + 4 ≡ length bs
-  pub version : slice_index_or bs 4 0 ≡ 1
-  pub kind : slice_index_or bs 5 0 ≡ k.byte
+  pub version : slice_index bs 4 ≡ 1
+  pub kind : slice_index bs 5 ≡ k.byte
   pub vertices : vertices_of bs ≡ vertex_total m
   pub triangles : triangles_of bs ≡ triangle_total m
   pub size : sheet_size k.width (vertex_total m) (triangle_total m) ≡ length bs

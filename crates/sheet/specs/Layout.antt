@@ -51,4 +51,4 @@ layout_fault k bs = or_else (head_fault k.byte bs) (or_else (counts_fault (verti
 
 -- the sheet's counts are within a store's capacities; the vertices are told first
 abbrev pub capacity_fault : ℕ → ℕ → List ℕ → Option Fault
-capacity_fault vertex-capacity triangle-capacity bs = or_else (unless (nat_le (vertices_of bs) vertex-capacity) VertexCapacity) (unless (nat_le (triangles_of bs) triangle-capacity) TriangleCapacity)
+capacity_fault vertex_capacity triangle_capacity bs = or_else (unless (nat_le (vertices_of bs) vertex_capacity) VertexCapacity) (unless (nat_le (triangles_of bs) triangle_capacity) TriangleCapacity)

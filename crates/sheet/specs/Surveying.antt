@@ -17,4 +17,4 @@ sheet_surveyed k bs = surveyed_unless (sheet_fault k bs) (sheet_mesh k bs)
 
 -- the same for a store of these capacities
 unfoldable pub sheet_surveyed_within : {P D : Type 0} → Kind P D → ℕ → ℕ → List ℕ → Result Counts Fault
-sheet_surveyed_within k vertex-capacity triangle-capacity bs = surveyed_unless (sheet_fault_within k vertex-capacity triangle-capacity bs) (sheet_mesh k bs)
+sheet_surveyed_within k vertex_capacity triangle_capacity bs = surveyed_unless (sheet_fault_within k vertex_capacity triangle_capacity bs) (sheet_mesh k bs)

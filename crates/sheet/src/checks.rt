@@ -39,9 +39,9 @@ pub(crate) fn sheet_size(width: usize, vertices: u32, triangles: u32) -> usize
 
 fn size_fault(width: usize, bytes: &[u8]) -> Option<Fault>
     requires width_bound { width ≤ 12 }
-    requires in_bounds { 14 ≤ length bytes.now }
-    requires bytes_bound { vertices_of bytes.now ≤ 16384 }
-    requires bytes_bound_2 { triangles_of bytes.now ≤ 32768 }
+    requires long { 14 ≤ length bytes.now }
+    requires few_vertices { vertices_of bytes.now ≤ 16384 }
+    requires few_triangles { triangles_of bytes.now ≤ 32768 }
     ensures { result ≡ size_fault width bytes.now }
 {
     if sheet_size(width, word_at(bytes, 6), word_at(bytes, 10)) == bytes.len() {

@@ -14,8 +14,8 @@ use place::Place;
 
 // Triangle t of a sheet that has it.
 fn triangle_in<P: Place>(bytes: &[u8], vertices: u32, t: u32) -> Triangle
-    requires t_bound { t < triangles_in P.Place.kind bytes.now }
-    requires vertices_value { vertices ≡ vertices_in P.Place.kind bytes.now }
+    requires triangle_in_range { t < triangles_in P.Place.kind bytes.now }
+    requires vertices_counted { vertices ≡ vertices_in P.Place.kind bytes.now }
     ensures { tri_of result ≡ triangle_in P.Place.kind.width bytes.now t }
 {
     let at = HEAD + vertices as usize * P::width_of() + t as usize * 12;
@@ -32,8 +32,8 @@ pub(crate) fn place_in<P: Place>(bytes: &[u8], v: u32) -> Option<P>
 }
 
 fn has_side<P: Place>(bytes: &[u8], vertices: u32, t: u32, u: u32, v: u32) -> bool
-    requires t_bound { t < triangles_in P.Place.kind bytes.now }
-    requires vertices_value { vertices ≡ vertices_in P.Place.kind bytes.now }
+    requires triangle_in_range { t < triangles_in P.Place.kind bytes.now }
+    requires vertices_counted { vertices ≡ vertices_in P.Place.kind bytes.now }
     ensures { result ≡ is_some (corner_of u v (triangle_in P.Place.kind.width bytes.now t)) }
 {
     triangle_in::<P>(bytes, vertices, t)

@@ -24,8 +24,8 @@ fn short_buffer(needed: usize, have: usize) -> Option<Fault>
 
 // How many bytes follow the length field of a sheet of this size.
 fn behind_length(size: usize) -> u32
-    requires le_size { 4 ≤ size }
-    requires size_bound { size < 2 ^ 32 }
+    requires at_least_field { 4 ≤ size }
+    requires within_word { size < 2 ^ 32 }
     ensures { result + 4 ≡ size }
 {
     (size - 4) as u32
@@ -33,9 +33,9 @@ fn behind_length(size: usize) -> u32
 
 // The places, from behind the head on.
 fn write_places<S: ReadingSurface>(surface: &S, out: &mut [u8])
-    requires { 14 + vertex_total (S.ReadingSurface.mesh surface.now) * Kind-as-Place.kind.width ≤ length out.old }
-    ensures after { out.new ≡ put_at 14 (rows (vertex_bytes Kind-as-Place.kind) (S.ReadingSurface.mesh surface.now).vertices) out.old }
-    ensures held { Held Kind-as-Place.kind (S.ReadingSurface.mesh surface.now).vertices }
+    requires { 14 + vertex_total (S.ReadingSurface.mesh surface.now) * S.Kind.Place.kind.width ≤ length out.old }
+    ensures after { out.new ≡ put_at 14 (rows (vertex_bytes S.Kind.Place.kind) (S.ReadingSurface.mesh surface.now).vertices) out.old }
+    ensures held { Held S.Kind.Place.kind (S.ReadingSurface.mesh surface.now).vertices }
 {
     let width = S::Kind::width_of();
     for v in 0..surface.vertex_count() {
@@ -61,9 +61,9 @@ fn write_triangles<S: ReadingSurface>(surface: &S, out: &mut [u8], at: usize)
 // Writes the surface's places and triangles as a sheet, closed or not, and answers how many bytes it has.
 // A shorter buffer is left as it is. What is written of a mesh with counts in their limits reads back.
 pub fn write_sheet<S: ReadingSurface>(surface: &S, out: &mut [u8]) -> Result<usize, Fault>
-    ensures answer { result ≡ sheet_written Kind-as-Place.kind (S.ReadingSurface.mesh surface.now) out.old }
-    ensures written { out.new ≡ sheet_after Kind-as-Place.kind (S.ReadingSurface.mesh surface.now) out.old }
-    ensures back { BackIf result Kind-as-Place.kind (S.ReadingSurface.mesh surface.now) }
+    ensures answer { result ≡ sheet_written S.Kind.Place.kind (S.ReadingSurface.mesh surface.now) out.old }
+    ensures written { out.new ≡ sheet_after S.Kind.Place.kind (S.ReadingSurface.mesh surface.now) out.old }
+    ensures back { BackIf result S.Kind.Place.kind (S.ReadingSurface.mesh surface.now) }
 {
     let vertices = surface.vertex_count();
     let triangles = surface.triangle_count();

@@ -10,5 +10,5 @@ returns c =
     let xs = c.args.out.now in
     let bs = c.args.bytes.now in
     let e : at + (at + length bs - at) ≡ at + length bs = omega arith in
-    ap (λ (t : List ℕ). take at xs ++ (t ++ drop (at + length bs - at) (drop at xs))) c.copy-from-slice.ensures.after
+    ap (λ (t : List ℕ). take at xs ++ (t ++ drop (at + length bs - at) (drop at xs))) c.copy_from_slice.ensures.after
     ∙ ap (λ (t : List ℕ). take at xs ++ (bs ++ t)) (drop-drop (at + length bs - at) at xs ∙ ap (λ (t : ℕ). drop t xs) e)

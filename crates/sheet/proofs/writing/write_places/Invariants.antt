@@ -5,5 +5,5 @@ use Rattle.sheet.proofs.writing.write_places.Given as goal
 
 abbrev pub invariant-loop-v : goal.invariant-loop-v
 invariant-loop-v g l =
-    (l.out ≡ put_at 14 (rows (vertex_bytes g.Kind.Place.kind) (take l.v (g.S.ReadingSurface.mesh l.surface).vertices)) l.initial.out)
-    × Held g.Kind.Place.kind (take l.v (g.S.ReadingSurface.mesh l.surface).vertices)
+    (l.out ≡ put_at 14 (rows (vertex_bytes g.S.Kind.Place.kind) (take l.v (g.S.ReadingSurface.mesh l.surface).vertices)) l.initial.out)
+    × Held g.S.Kind.Place.kind (take l.v (g.S.ReadingSurface.mesh l.surface).vertices)

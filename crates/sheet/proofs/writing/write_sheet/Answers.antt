@@ -6,35 +6,35 @@ use Rattle.sheet.proofs.writing.write_sheet.Goals as goal
 
 pub returns-in-Some : goal.returns-in-Some
 returns-in-Some g c =
-    let k = g.Kind.Place.kind in
-    let law = g.met.Kind.Place.lawful in
+    let k = g.S.Kind.Place.kind in
+    let law = g.met.S.Kind.Place.lawful in
     let m = g.S.ReadingSurface.mesh c.args.surface.now in
     let out = c.args.out.now in
-    let size = c.sheet-size-size.result in
+    let size = c.sheet_size-size.result in
     let fault = c.in-Some.fault in
-    let e = size_is k m size _ _ _ c.sheet-size-size.ensures.value c.width-of-width.ensures c.vertex-count-vertices.ensures c.triangle-count-triangles.ensures in
+    let e = size_is k m size _ _ _ c.sheet_size-size.ensures.value c.width_of-width.ensures c.vertex_count-vertices.ensures c.triangle_count-triangles.ensures in
     record { answer = refused k law m out size fault e c.in-Some.ensures; written = unchanged k law m out size fault e c.in-Some.ensures; back = tt }
 
 pub returns : goal.returns
 returns g c =
-    let k = g.Kind.Place.kind in
+    let k = g.S.Kind.Place.kind in
     let m = g.S.ReadingSurface.mesh c.args.surface.now in
-    let law = g.met.Kind.Place.lawful in
+    let law = g.met.S.Kind.Place.lawful in
     let out = c.args.out.now in
-    let size = c.sheet-size-size.result in
-    let V = c.vertex-count-vertices.result in
-    let T = c.triangle-count-triangles.result in
-    let w = c.width-of-width.result in
-    let vs = c.vertex-count-vertices.ensures in
-    let ts = c.triangle-count-triangles.ensures in
-    let ws = c.width-of-width.ensures in
-    let e = size_is k m size w V T c.sheet-size-size.ensures.value ws vs ts in
-    let h = short_none size (length out) c.in-default.ensures in
+    let size = c.sheet_size-size.result in
+    let V = c.vertex_count-vertices.result in
+    let T = c.triangle_count-triangles.result in
+    let w = c.width_of-width.result in
+    let vs = c.vertex_count-vertices.ensures in
+    let ts = c.triangle_count-triangles.ensures in
+    let ws = c.width_of-width.ensures in
+    let e = size_is k m size w V T c.sheet_size-size.ensures.value ws vs ts in
+    let h = short_none size (length out) c.in_default.ensures in
     let room : written_size k m ≤ length out = omega arith in
-    let head = c.put.ensures ∙ ap (λ (bs : List ℕ). put_at 0 bs out) c.head-bytes.ensures in
+    let head = c.put.ensures ∙ ap (λ (bs : List ℕ). put_at 0 bs out) c.head_bytes.ensures in
     record {
       answer = answered k law m out room size e;
-      written = written k law m out room c.behind-length-following.result c.kind-byte-kind.result V T (14 + V * w) c.put.new.out c.write-places.new.out c.write-triangles.new.out
-          (c.behind-length-following.ensures ∙ e) c.kind-byte-kind.ensures vs ts (λ i. 14 + vs i * ws i) head c.write-places.ensures.after c.write-triangles.ensures.after;
-      back = λ e. reads_back k law m (record { counts = e; held = c.write-places.ensures.held; numbered = c.write-triangles.ensures.numbered });
+      written = written k law m out room c.behind_length-following.result c.kind_byte-kind.result V T (14 + V * w) c.put.new.out c.write_places.new.out c.write_triangles.new.out
+          (c.behind_length-following.ensures ∙ e) c.kind_byte-kind.ensures vs ts (λ i. 14 + vs i * ws i) head c.write_places.ensures.after c.write_triangles.ensures.after;
+      back = λ e. reads_back k law m (record { counts = e; held = c.write_places.ensures.held; numbered = c.write_triangles.ensures.numbered });
     }

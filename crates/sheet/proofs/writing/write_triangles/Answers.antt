@@ -9,7 +9,7 @@ use Rattle.sheet.proofs.Rows.{each_more, each_all, rows_all, row_put}
 use Rattle.sheet.proofs.Exact.{there_value}
 use Rattle.sheet.proofs.Written.{triangle_long}
 use Rattle.sheet.proofs.writing.write_triangles.Goals as goal
-use Rattle.sheet.proofs.writing.write_triangles.Goals.{in-Some, in-default}
+use Rattle.sheet.proofs.writing.write_triangles.Goals.{in-Some, in_default}
 
 pub loop-t-init : goal.loop-t-init
 loop-t-init g c = (sym (put_none c.args.at c.args.out.now), λ x m. elim m [ ])
@@ -18,7 +18,7 @@ pub loop-t-preserved : goal.loop-t-preserved
 loop-t-preserved g c =
     let ts = (g.S.ReadingSurface.mesh c.args.surface.now).triangles in
     let t = c.loop-t.t in
-    let h : t < length ts = omega (arith, c.triangle-count-t-end.ensures) in
+    let h : t < length ts = omega (arith, c.triangle_count-t-end.ensures) in
     let x = there_value ts t h in
     let at = c.args.at in
     elim c.match-triangle.branch [
@@ -26,13 +26,13 @@ loop-t-preserved g c =
         row_put triangle_bytes 12 triangle_long at (at + t * 12) t ts (tri_of w.in-Some.triangle) c.args.out.now c.loop-t.out c.match-triangle.out h there c.requires refl c.loop-t.invariant.0 (w.out-is ∙ (w.put.ensures ∙ ap (λ (bs : List ℕ). put_at (at + t * 12) bs c.loop-t.out) w.triangle_bytes.ensures.value)),
         each_more ShortCorners ts t (tri_of w.in-Some.triangle) h there c.loop-t.invariant.1 w.triangle_bytes.ensures.short,
       )
-      | in-default w ↦ none_some (sym (ap (option_map tri_of) w.in-default.is) ∙ (c.triangle.ensures ∙ x.1))
+      | in_default w ↦ none_some (sym (ap (option_map tri_of) w.in_default.is) ∙ (c.triangle.ensures ∙ x.1))
     ]
 
 pub returns : goal.returns
 returns g c =
     let ts = (g.S.ReadingSurface.mesh c.args.surface.now).triangles in
-    let e : c.loop-t.t ≡ length ts = omega (arith, c.triangle-count-t-end.ensures) in
+    let e : c.loop-t.t ≡ length ts = omega (arith, c.triangle_count-t-end.ensures) in
     record {
       after = rows_all triangle_bytes c.args.at c.loop-t.t ts c.args.out.now c.loop-t.out e c.loop-t.invariant.0;
       numbered = each_all ShortCorners ts c.loop-t.t e c.loop-t.invariant.1;

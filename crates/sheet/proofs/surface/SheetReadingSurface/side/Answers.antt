@@ -3,8 +3,8 @@ use Rattle.mesh.proofs.Indexed.{length_counted}
 use Rattle.mesh.proofs.Finding.{side_counted_more, side_counted_here, side_all}
 use Rattle.sheet.proofs.surface.SheetReadingSurface.side.Goals as goal
 
-pub returns-then-has-side : goal.returns-then-has-side
-returns-then-has-side g c = search (rules, side_counted_here)
+pub returns-then-has_side : goal.returns-then-has_side
+returns-then-has_side g c = search (rules, side_counted_here)
 
 pub loop-t-preserved : goal.loop-t-preserved
 loop-t-preserved g c = search (rules, side_counted_more)
