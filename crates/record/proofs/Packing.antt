@@ -1,7 +1,7 @@
 -- Packing numbers into bytes: one byte more, and what a byte is made of.
-use Rattle.std.proofs.Common.{◌≡◌, ℕ, zero, suc, ◌+◌, ◌-◌, ◌*◌, ◌/◌, ◌%◌, ◌^◌, ◌<◌, ◌≤◌, List, [], ◌∷◌, ◌++◌, length, get_or, take, drop, sym, refl, ap, ◌∙◌, subst, add-zero, add_comm, mul-suc, arith}
+use Rattle.std.proofs.Common.{◌≡◌, ℕ, zero, suc, ◌+◌, ◌*◌, ◌^◌, List, [], ◌∷◌, ◌++◌, get_or, drop, sym, ap, ◌∙◌, add-zero, add_comm, mul-suc, arith}
 use Rattle.std.proofs.lemmas.List.{get_or-drop, drop-drop}
-use Rattle.record.specs.Packing.{gathered, packed, Small}
+use Rattle.record.specs.Packing.{gathered, packed}
 
 pub packed_more : (w n k : ℕ) (xs : List ℕ) → packed w n (suc k) xs ≡ packed w n k xs ++ gathered w n (drop (n * k) xs) ∷ []
 packed_more w n zero xs = let e : ◌≡◌ {A = ℕ} 0 (n * 0) = omega arith in ap (λ (t : ℕ). gathered w n (drop t xs) ∷ []) e

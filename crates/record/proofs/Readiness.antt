@@ -1,13 +1,11 @@
 -- What the writer's checks show of the parts that pass them.
-use Rattle.std.proofs.Common.{◌≡◌, ℕ, zero, suc, ◌+◌, ◌*◌, ◌^◌, ◌<◌, ◌≤◌, Bool, true, false, cond, ◌&&◌, eqb, leb, List, [], ◌∷◌, length, get_or, Some, None, Option, sym, refl, ap, ◌∙◌, subst, mul_assoc, arith}
-use Rattle.std.proofs.lemmas.Bool.{leb-true, eqb-true, and_parts, cases_Bool, cond_both}
-use Rattle.std.proofs.lemmas.Bool.Decides.{nat_tests}
+use Rattle.std.proofs.Common.{◌≡◌, ℕ, zero, suc, ◌+◌, ◌*◌, ◌≤◌, Bool, true, false, cond, eqb, leb, List, [], ◌∷◌, length, get_or, Some, None, Option, sym, refl, ◌∙◌, arith}
+use Rattle.std.proofs.lemmas.Bool.{leb-true, eqb-true, and_parts, cond_both}
 use Rattle.std.proofs.lemmas.Nat.{mul-le}
 use Rattle.fault.specs.Faults.{or_else}
 use Rattle.fault.specs.declared.fault.Fault.{Fault}
 use Rattle.fault.specs.declared.fault.Fault.TheVariants.{PartLengths, ValueTooLarge, ShortBuffer}
 use Rattle.place.specs.Kinds.{Kind}
-use Rattle.record.specs.Packing.{Small}
 use Rattle.record.specs.Written.{record_size}
 use Rattle.record.specs.Refusals.{not_zero, parts_fit, parts_fault, over_fault, values_fault, room_fault, write_fault, Ready}
 use Rattle.record.specs.Theorems.{Accepted}

@@ -1,19 +1,19 @@
 -- What is written reads back.
-use Rattle.std.proofs.Common.{◌≡◌, ℕ, zero, suc, ◌+◌, ◌-◌, ◌*◌, ◌/◌, ◌%◌, ◌^◌, ◌<◌, ◌≤◌, Bool, true, cond, ◌&&◌, eqb, ltb, leb, List, [], ◌∷◌, ◌++◌, length, get_or, take, drop, Some, None, Option, sym, refl, ap, ◌∙◌, subst, ⊎_elim, arith}
+use Rattle.std.proofs.Common.{◌≡◌, ℕ, suc, ◌+◌, ◌-◌, ◌*◌, ◌/◌, ◌%◌, ◌^◌, ◌<◌, ◌≤◌, true, ◌&&◌, eqb, ltb, leb, List, ◌++◌, length, get_or, take, drop, Some, None, Option, sym, refl, ap, ◌∙◌, ⊎_elim, arith}
 use native.Mathlib.Nat.{mod-one}
 use Rattle.std.proofs.lemmas.List.FromFn.{fill_by_all}
 use Rattle.std.proofs.lemmas.List.{take_at, drop_at, drop-drop, take_all, ext_get_or, get_or-drop, get_or_append_left}
 use Rattle.std.proofs.lemmas.Bool.{cases_lt, le-leb, lt-ltb, eq-eqb, cond-true, and_from}
 use Rattle.fault.specs.Faults.{or_else}
 use Rattle.fault.specs.declared.fault.Fault.{Fault}
-use Rattle.fault.specs.declared.fault.Fault.TheVariants.{PartLengths, RecordLength, RecordVersion, RecordKind, MarksCutShort, SpareMarkBit, RecordSize, SpareCodeBit}
+use Rattle.fault.specs.declared.fault.Fault.TheVariants.{PartLengths, RecordLength, RecordKind, MarksCutShort, SpareMarkBit, RecordSize, SpareCodeBit}
 use Rattle.place.specs.Kinds.{Kind}
 use Rattle.place.specs.Words.{word}
 use Rattle.record.specs.Packing.{bytes_for, spare_of, mark_in, code_in, mark_at, code_at, packed, Small, marks_set}
-use Rattle.record.specs.Parts.{code_count, codes_from, displacements_from, marks_of, codes_of, displacements_of, set_count, due_size}
+use Rattle.record.specs.Parts.{code_count, codes_from, marks_of, codes_of, displacements_of, set_count, due_size}
 use Rattle.record.specs.Checks.{length_fault, version_fault, kind_fault, marks_fault, spare_mark_fault, head_fault, size_fault, code_bits_fault, layout_fault}
 use Rattle.record.specs.Written.{body_size, record_size, packed_marks, packed_codes, record_bytes}
-use Rattle.record.specs.Refusals.{not_zero, parts_fit, parts_fault, over_fault, values_fault}
+use Rattle.record.specs.Refusals.{not_zero, parts_fit, over_fault}
 use Rattle.record.specs.Theorems.{Accepted, ReadsAs, ReadsBack, OneToOne}
 use Rattle.record.proofs.Readiness.{passed, neither, none_over, Few, few, displacements_due}
 use Rattle.record.proofs.Writing.{length_packed, length_record}

@@ -1,5 +1,5 @@
 -- Numbers that were read are packed again into the same bytes, where the spare bits are 0.
-use Rattle.std.proofs.Common.{◌≡◌, ℕ, zero, suc, ◌+◌, ◌-◌, ◌*◌, ◌/◌, ◌%◌, ◌^◌, ◌<◌, ◌≤◌, List, [], ◌∷◌, ◌++◌, map, length, get_or, drop, sym, refl, ap, ◌∙◌, ⊎_elim, mod-eq_of_lt, mul_comm, add_comm, mul-zero, zero-add, mul-suc, arith}
+use Rattle.std.proofs.Common.{◌≡◌, ℕ, zero, suc, ◌+◌, ◌-◌, ◌*◌, ◌/◌, ◌%◌, ◌^◌, ◌<◌, ◌≤◌, List, map, length, get_or, drop, sym, ap, ◌∙◌, ⊎_elim, mod-eq_of_lt, mul_comm, add_comm, mul-zero, zero-add, mul-suc, arith}
 use native.Mathlib.Nat.{zero-div, mod-one}
 use Rattle.std.specs.List.{range_with_len}
 use Rattle.std.proofs.lemmas.Nat.{mod-pow-add, field_of, div-mul-add, mod-mul-add}

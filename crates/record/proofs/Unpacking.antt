@@ -1,9 +1,8 @@
 -- Numbers that were packed are read again, and leave the spare bits 0.
-use Rattle.std.proofs.Common.{◌≡◌, ℕ, zero, suc, ◌+◌, ◌-◌, ◌*◌, ◌/◌, ◌%◌, ◌^◌, ◌<◌, ◌≤◌, cond, eqb, List, [], ◌∷◌, ◌++◌, length, get_or, take, drop, sym, refl, ap, ◌∙◌, subst, mod-eq_of_lt, mul_assoc, mul_comm, add_comm, mul-suc, mul-add, add-one, arith}
+use Rattle.std.proofs.Common.{◌≡◌, ℕ, zero, suc, ◌+◌, ◌-◌, ◌*◌, ◌/◌, ◌%◌, ◌^◌, ◌<◌, ◌≤◌, List, [], ◌∷◌, ◌++◌, length, get_or, take, drop, sym, refl, ap, ◌∙◌, subst, mod-eq_of_lt, mul_assoc, mul_comm, add_comm, mul-suc, mul-add, add-one, arith}
 use native.Mathlib.Nat.{mul-add-div_right, mul-add-mod_self_right, zero-mod}
 use Rattle.std.proofs.lemmas.Nat.{pow_pos, pow-add, div-mul-add, mul-add-lt, div-add-mod', div_below, mod_below}
 use Rattle.std.proofs.lemmas.List.{get_or-drop, drop-drop, take_more, length-drop}
-use Rattle.std.proofs.lemmas.Bool.{eq-eqb, ne_eqb, cond-true, cond-false}
 use Rattle.record.specs.Packing.{number_in, mark_in, gathered, packed, Small, marks_set}
 use Rattle.record.specs.Refusals.{not_zero}
 

@@ -1,9 +1,8 @@
 -- Writing the parts of a record one behind another.
-use Rattle.std.proofs.Common.{◌≡◌, ℕ, zero, suc, ◌+◌, ◌-◌, ◌≤◌, List, [], ◌∷◌, ◌++◌, length, take, drop, sym, refl, ap, ◌∙◌, arith}
+use Rattle.std.proofs.Common.{◌≡◌, ℕ, zero, suc, ◌+◌, ◌-◌, ◌≤◌, List, ◌++◌, length, drop, sym, refl, ap, ◌∙◌, arith}
 use borrow.Rule.Slice.PartMut.{put_mid}
 use Rattle.std.proofs.lemmas.List.{append_assoc, take_at, drop_at, drop-drop, length-append}
 use Rattle.place.specs.Kinds.{Kind}
-use Rattle.place.specs.Words.{word_bytes}
 use Rattle.record.specs.Packing.{bytes_for, packed}
 use Rattle.record.specs.Written.{body_size, record_size, head_bytes, packed_marks, packed_codes, record_bytes}
 

@@ -7,7 +7,7 @@ use Rattle.place.specs.Kinds.{Kind}
 use Rattle.place.specs.Words.{word}
 use Rattle.record.specs.Limits.{max_marks}
 use Rattle.record.specs.Packing.{spare_of, bytes_for}
-use Rattle.record.specs.Parts.{code_count, codes_from, displacements_from, due_size}
+use Rattle.record.specs.Parts.{code_count, codes_from, due_size}
 
 -- the head is there, and the length is that of what follows it
 abbrev pub length_fault : List ℕ → Option Fault

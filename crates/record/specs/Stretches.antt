@@ -10,17 +10,17 @@ use Rattle.record.specs.Parts.{codes_from, displacements_from, marks_of, codes_o
 
 -- the bytes of a stretch with their offset, by what they are
 pub data Piece : Type 0 where
-  mark-bytes code-bytes displacement_bytes : List ℕ → ℕ → Piece
+  mark_bytes code_bytes displacement_bytes : List ℕ → ℕ → Piece
 
 abbrev pub meaning : Stretch → Piece
-meaning (Marks part offset) = mark-bytes part.now offset
-meaning (Codes part offset) = code-bytes part.now offset
+meaning (Marks part offset) = mark_bytes part.now offset
+meaning (Codes part offset) = code_bytes part.now offset
 meaning (Displacements part offset) = displacement_bytes part.now offset
 
 -- the piece of a record with m edges whose turn it is
 abbrev pub piece_at : List ℕ → ℕ → Turn → Option Piece
-piece_at bs m First = Some (mark-bytes (marks_of bs m) 10)
-piece_at bs m Second = Some (code-bytes (codes_of bs m) (codes_from m))
+piece_at bs m First = Some (mark_bytes (marks_of bs m) 10)
+piece_at bs m Second = Some (code_bytes (codes_of bs m) (codes_from m))
 piece_at bs m Third = Some (displacement_bytes (displacements_of bs m) (displacements_from bs m))
 piece_at bs m Over = None
 

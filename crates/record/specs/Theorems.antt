@@ -1,5 +1,5 @@
 -- What is written reads back, and different parts are written as different bytes.
-use Rattle.std.specs.Prelude.{◌≡◌, ℕ, ◌<◌, List, length, Some, None, Option, ◌==◌, slice_index}
+use Rattle.std.specs.Prelude.{◌≡◌, ℕ, ◌<◌, List, length, Some, None, ◌==◌, slice_index}
 use Rattle.place.specs.Kinds.{Kind}
 use Rattle.record.specs.Packing.{mark_at, code_at, Small}
 use Rattle.record.specs.Parts.{marks_of, codes_of, displacements_of, marks_read, codes_read}

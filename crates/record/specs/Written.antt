@@ -1,5 +1,5 @@
 -- The record of some marks, codes and displacement bytes, as it is written.
-use Rattle.std.specs.Prelude.{ℕ, ◌+◌, List, [], ◌∷◌, ◌++◌, length}
+use Rattle.std.specs.Prelude.{ℕ, ◌+◌, List, ◌∷◌, ◌++◌, length}
 use Rattle.place.specs.Kinds.{Kind}
 use Rattle.place.specs.Words.{word_bytes}
 use Rattle.record.specs.Packing.{bytes_for, packed}

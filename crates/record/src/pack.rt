@@ -26,7 +26,8 @@ fn code_or_zero(codes: &[u8], i: usize) -> u8
 
 // The byte of the eight marks from `at` on.
 fn eight_marks(marks: &[u8], at: usize) -> u8
-    requires { (Small 1 marks.now) × (at < 2 ^ 60) }
+    requires marks_small { Small 1 marks.now }
+    requires at_small { at < 2 ^ 60 }
     ensures { result ≡ gathered 1 8 (drop at marks.now) }
 {
     let high = mark_or_zero(marks, at) * 128
@@ -42,7 +43,8 @@ fn eight_marks(marks: &[u8], at: usize) -> u8
 
 // The byte of the four codes from `at` on.
 fn four_codes(codes: &[u8], at: usize) -> u8
-    requires { (Small 2 codes.now) × (at < 2 ^ 60) }
+    requires codes_small { Small 2 codes.now }
+    requires at_small { at < 2 ^ 60 }
     ensures { result ≡ gathered 2 4 (drop at codes.now) }
 {
     code_or_zero(codes, at) * 64
@@ -53,7 +55,9 @@ fn four_codes(codes: &[u8], at: usize) -> u8
 
 // Packs the marks into all of `out`.
 pub(crate) fn pack_marks(marks: &[u8], out: &mut [u8])
-    requires { (Small 1 marks.now) × ((length marks.now ≤ max_marks) × (length out.old ≡ bytes_for 8 (length marks.now))) }
+    requires marks_small { Small 1 marks.now }
+    requires few_marks { length marks.now ≤ max_marks }
+    requires fits { length out.old ≡ bytes_for 8 (length marks.now) }
     ensures { out.new ≡ packed_marks marks.now }
 {
     for k in 0..out.len() {
@@ -63,7 +67,9 @@ pub(crate) fn pack_marks(marks: &[u8], out: &mut [u8])
 
 // Packs the codes into all of `out`.
 pub(crate) fn pack_codes(codes: &[u8], out: &mut [u8])
-    requires { (Small 2 codes.now) × ((length codes.now ≤ max_codes) × (length out.old ≡ bytes_for 4 (length codes.now))) }
+    requires codes_small { Small 2 codes.now }
+    requires few_codes { length codes.now ≤ max_codes }
+    requires fits { length out.old ≡ bytes_for 4 (length codes.now) }
     ensures { out.new ≡ packed_codes codes.now }
 {
     for k in 0..out.len() {

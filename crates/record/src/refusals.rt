@@ -48,7 +48,9 @@ fn over_fault(numbers: &[u8], limit: u8) -> Option<Fault>
 
 // The length of the whole record.
 pub(crate) fn record_size(marks: &[u8], codes: &[u8], displacements: &[u8]) -> usize
-    requires { (length marks.now ≤ max_marks) × ((length codes.now ≤ max_codes) × (length displacements.now ≤ 24 * max_marks)) }
+    requires few_marks { length marks.now ≤ max_marks }
+    requires few_codes { length codes.now ≤ max_codes }
+    requires few_displacements { length displacements.now ≤ 24 * max_marks }
     ensures { result ≡ record_size marks.now codes.now displacements.now }
 {
     10 + mark_bytes(marks.len() as u32) + code_bytes(codes.len() as u32) + displacements.len()

@@ -1,4 +1,4 @@
-use Rattle.std.proofs.Common.{◌≡◌, ℕ, suc, ◌+◌, ◌<◌, ◌≤◌, sym, ap, ◌∙◌, add-one, arith, rules}
+use Rattle.std.proofs.Common.{◌≡◌, ◌+◌, ◌<◌, ap, add-one, arith, rules}
 use Rattle.record.specs.Packing.{mark_in, marks_set}
 use Rattle.record.proofs.marks.count_marks.Goals as goal
 

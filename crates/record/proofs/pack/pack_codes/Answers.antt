@@ -10,9 +10,9 @@ loop-k-preserved c =
     let out = c.loop-k.out in
     let xs = c.args.codes.now in
     let lt : k < length out = omega arith in
-    take_more_set out k c.four-codes.result lt
-    ∙ ap (λ (l : List ℕ). l ++ c.four-codes.result ∷ []) c.loop-k.invariant
-    ∙ ap (λ (v : ℕ). packed 2 4 k xs ++ v ∷ []) c.four-codes.ensures
+    take_more_set out k c.four_codes.result lt
+    ∙ ap (λ (l : List ℕ). l ++ c.four_codes.result ∷ []) c.loop-k.invariant
+    ∙ ap (λ (v : ℕ). packed 2 4 k xs ++ v ∷ []) c.four_codes.ensures
     ∙ sym (packed_more 2 4 k xs)
     ∙ ap (λ (t : ℕ). packed 2 4 t xs) (sym (add-one k))
 

@@ -10,9 +10,9 @@ loop-k-preserved c =
     let out = c.loop-k.out in
     let xs = c.args.marks.now in
     let lt : k < length out = omega arith in
-    take_more_set out k c.eight-marks.result lt
-    ∙ ap (λ (l : List ℕ). l ++ c.eight-marks.result ∷ []) c.loop-k.invariant
-    ∙ ap (λ (v : ℕ). packed 1 8 k xs ++ v ∷ []) c.eight-marks.ensures
+    take_more_set out k c.eight_marks.result lt
+    ∙ ap (λ (l : List ℕ). l ++ c.eight_marks.result ∷ []) c.loop-k.invariant
+    ∙ ap (λ (v : ℕ). packed 1 8 k xs ++ v ∷ []) c.eight_marks.ensures
     ∙ sym (packed_more 1 8 k xs)
     ∙ ap (λ (t : ℕ). packed 1 8 t xs) (sym (add-one k))
 

@@ -1,4 +1,4 @@
-use Rattle.std.proofs.Common.{◌≡◌, ◌<◌, length, get_or, arith}
+use Rattle.std.proofs.Common.{◌<◌, length, arith}
 use Rattle.record.proofs.Refusing.{zero_counted, other_counted, none_counted}
 use Rattle.record.proofs.refusals.count_not_zero.Goals as goal
 use Rattle.record.proofs.refusals.count_not_zero.Goals.{then-number-ne0, else-number-ne0}

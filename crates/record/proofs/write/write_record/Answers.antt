@@ -8,9 +8,9 @@ use Rattle.record.proofs.Reading.{reads_as}
 use Rattle.record.proofs.Writing.{length_record}
 use Rattle.record.proofs.write.write_record.Goals as goal
 
-pub put-record-requires : goal.put-record-requires
-put-record-requires g c =
-    ready g.P.Place.kind g.met.P.Place.lawful.displacement_narrow c.args.marks.now c.args.codes.now c.args.displacements.now (length c.args.out.now) (sym c.write_fault.ensures ∙ c.in-default.is)
+pub put_record-requires : goal.put_record-requires
+put_record-requires g c =
+    ready g.P.Place.kind g.met.P.Place.lawful.displacement_narrow c.args.marks.now c.args.codes.now c.args.displacements.now (length c.args.out.now) (sym c.write_fault.ensures ∙ c.in_default.is)
 
 pub returns : goal.returns
 returns g c =
@@ -19,17 +19,17 @@ returns g c =
     let cs = c.args.codes.now in
     let ds = c.args.displacements.now in
     let o = c.args.out.now in
-    let none : write_fault k ms cs ds (length o) ≡ None = sym c.write_fault.ensures ∙ c.in-default.is in
+    let none : write_fault k ms cs ds (length o) ≡ None = sym c.write_fault.ensures ∙ c.in_default.is in
     let answer : answer_of (write_fault k ms cs ds (length o)) (record_size ms cs ds) ≡ answer_of None (record_size ms cs ds) = ap (λ f. answer_of f (record_size ms cs ds)) none in
     let after : buffer_of (write_fault k ms cs ds (length o)) (record_bytes k ms cs ds) o ≡ record_bytes k ms cs ds ++ drop (length (record_bytes k ms cs ds)) o = ap (λ f. buffer_of f (record_bytes k ms cs ds) o) none in
     let long : record_bytes k ms cs ds ++ drop (length (record_bytes k ms cs ds)) o ≡ record_bytes k ms cs ds ++ drop (record_size ms cs ds) o = ap (λ (n : ℕ). record_bytes k ms cs ds ++ drop n o) (length_record k ms cs ds) in
-    let n = c.put-record.result in
-    let front : take n c.put-record.new.out ≡ record_bytes k ms cs ds =
-    ap (take n) c.put-record.ensures.buffer
-    ∙ take_at (record_bytes k ms cs ds) (drop (record_size ms cs ds) o) n (length_record k ms cs ds ∙ sym c.put-record.ensures.size) in
+    let n = c.put_record.result in
+    let front : take n c.put_record.new.out ≡ record_bytes k ms cs ds =
+    ap (take n) c.put_record.ensures.buffer
+    ∙ take_at (record_bytes k ms cs ds) (drop (record_size ms cs ds) o) n (length_record k ms cs ds ∙ sym c.put_record.ensures.size) in
     let back = reads_as k g.met.P.Place.lawful.displacement_narrow ms cs ds (accepted k g.met.P.Place.lawful.displacement_narrow ms cs ds (length o) none) in
     record {
       answer = cc;
-      buffer = c.put-record.ensures.buffer ∙ sym (after ∙ long);
+      buffer = c.put_record.ensures.buffer ∙ sym (after ∙ long);
       back = subst (λ (b : List ℕ). ReadsAs k b ms cs ds) (sym front) back;
     }
