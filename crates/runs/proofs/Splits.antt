@@ -8,7 +8,6 @@ use Rattle.place.specs.Kinds.{Kind, Lawful}
 use Rattle.mesh.specs.Lists.{Mem, now, later}
 use Rattle.mesh.specs.Triangles.{Tri}
 use Rattle.mesh.specs.Sides.{Side}
-use Rattle.mesh.specs.Edges.{edges}
 use Rattle.mesh.specs.Closed.{Closed}
 use Rattle.mesh.specs.Meshes.{Mesh, vertex_total, triangle_total, parents}
 use Rattle.mesh.proofs.Tests.{none_some}
@@ -29,7 +28,6 @@ use Rattle.forest.proofs.Placing.{places_moved}
 use Rattle.forest.proofs.Following.{triangles_follow}
 use Rattle.runs.specs.Parts.{record_marks, record_codes, record_displacements}
 use Rattle.runs.specs.Outcome.{edge_total, edges_marked, trees_formed, mesh_made, table_fault, closed_fault, job_fault, marks_fault, vertex_room_fault, triangle_room_fault, codes_fault, displacements_fault, record_fault}
-use Rattle.runs.specs.Figures.{euler}
 use Rattle.runs.specs.Splits.{SplitKept, SplitOutcomeKeeps}
 use Rattle.runs.proofs.Parts.{marked_counted, codes_counted, displacements_counted}
 use Rattle.runs.proofs.Figures.{figures_agree}

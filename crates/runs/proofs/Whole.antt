@@ -8,7 +8,6 @@ use Rattle.fault.specs.declared.fault.Fault.TheVariants.{StoreNotClosed, StoreNo
 use Rattle.fault.proofs.Orders.{or_none}
 use Rattle.place.specs.Kinds.{Kind, Lawful}
 use Rattle.mesh.specs.Triangles.{Tri, tri}
-use Rattle.mesh.specs.Edges.{edges}
 use Rattle.mesh.specs.Growth.{RoomInLimits}
 use Rattle.mesh.specs.Follow.{smaller_parent, back_step, back_steps}
 use Rattle.mesh.specs.Meshes.{Mesh, vertex_total, triangle_total, parents}
