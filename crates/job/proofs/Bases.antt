@@ -1,5 +1,5 @@
 -- A base call, path by path.
-use Rattle.std.proofs.Common.{◌≡◌, ℕ, ◌+◌, ◌-◌, ◌*◌, ◌%◌, ◌<◌, ◌≤◌, Bool, true, false, cond, not, ◌&&◌, eqb, leb, List, [], ◌∷◌, length, Some, None, Ok, Err, Option, Result, sym, refl, ap, ◌∙◌, subst, arith, eqb-true, leb-true}
+use Rattle.std.proofs.Common.{◌≡◌, ℕ, ◌-◌, ◌*◌, ◌%◌, ◌<◌, ◌≤◌, Bool, true, false, cond, not, eqb, leb, List, [], ◌∷◌, length, Some, None, Ok, Err, Option, sym, refl, ap, ◌∙◌, subst, arith, eqb-true, leb-true}
 use borrow.Author.Tests.{not-false}
 use Rattle.std.specs.List.{slice_get}
 use Rattle.fault.specs.declared.fault.Fault.{Fault}
@@ -11,22 +11,22 @@ use Rattle.mesh.specs.Triangles.{Tri}
 use Rattle.mesh.specs.Meshes.{Mesh, Vertex, mesh_of, vertex_total, triangle_total}
 use Rattle.mesh.specs.Growth.{all_below, different}
 use Rattle.mesh.specs.Limits.{counts_fault}
-use Rattle.mesh.proofs.Tests.{and_true, some_inj, none_some, nth_below}
+use Rattle.mesh.proofs.Tests.{and_true, some_inj, nth_below}
 use Rattle.mesh.proofs.Indexed.{length_counted, counted_there}
 use Rattle.survey.specs.declared.counts.Counts.{Counts}
 use Rattle.survey.specs.Checks.{good_corners, bad_one, first_bad}
-use Rattle.survey.specs.Survey.{shape_fault, survey_fault, edge_count, counted, counted_unless, surveyed}
-use Rattle.survey.proofs.Exact.{SmallCounts, surveyed_small, edges_half_told}
+use Rattle.survey.specs.Survey.{survey_fault, edge_count, counted, counted_unless, surveyed}
+use Rattle.survey.proofs.Exact.{surveyed_small, edges_half_told}
 use Rattle.mesh.proofs.Firsts.{all_none}
 use Rattle.sheet.specs.Layout.{vertices_of, triangles_of, unless, layout_fault, capacity_fault}
-use Rattle.sheet.specs.Content.{triangle_in, vertex_in, vertices_in, triangles_in, sheet_mesh, place_fault, sheet_fault_within}
+use Rattle.sheet.specs.Content.{triangle_in, vertex_in, vertices_in, triangles_in, sheet_mesh, sheet_fault_within}
 use Rattle.sheet.specs.Bounds.{unless_none}
 use Rattle.sheet.specs.Opening.{opened}
 use Rattle.sheet.proofs.Opened.{opened_ok, opened_err}
 use Rattle.sheet.proofs.Exact.{vertices_are, triangles_are}
-use Rattle.runs.specs.Jobs.{Numbers, base_numbers, is_empty, empty_fault, base_fault, mesh_unless, base_mesh, numbers_unless, base_answer}
+use Rattle.runs.specs.Jobs.{base_numbers, is_empty, base_fault, mesh_unless, base_mesh, numbers_unless, base_answer}
 use Rattle.job.specs.Copies.{Copyable, first_vertices}
-use Rattle.job.specs.Telling.{numbers_of_counts, numbers_told}
+use Rattle.job.specs.Telling.{numbers_of_counts}
 
 bad_none : (V : ℕ) (ts : List Tri) → first_bad V ts ≡ None → (i : ℕ) (x : Tri) → slice_get ts i ≡ Some x → not (good_corners V x) ≡ false
 unfolding first_bad

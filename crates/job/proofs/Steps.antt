@@ -1,9 +1,9 @@
 -- One step back, and one turn of following back.
-use Rattle.std.proofs.Common.{◌≡◌, ℕ, zero, suc, ◌+◌, ◌-◌, ◌<◌, ◌≤◌, min, Bool, true, false, cond, ltb, List, [], ◌∷◌, map, Some, None, Option, sym, refl, ap, ◌∙◌, arith, ltb-false, ltb-true}
+use Rattle.std.proofs.Common.{◌≡◌, ℕ, zero, suc, ◌+◌, ◌-◌, ◌<◌, min, Bool, true, false, cond, ltb, List, [], ◌∷◌, map, Some, None, Option, sym, refl, ap, ◌∙◌, arith, ltb-false, ltb-true}
 use Rattle.std.specs.Option.{option_map}
 use Rattle.std.specs.List.{slice_get}
-use Rattle.mesh.specs.Meshes.{Mesh, Vertex, parents, parent_at}
-use Rattle.mesh.specs.Follow.{smaller_parent, back_step, back_steps, follow_back}
+use Rattle.mesh.specs.Meshes.{Mesh, parents, parent_at}
+use Rattle.mesh.specs.Follow.{smaller_parent, back_step, back_steps}
 use Rattle.mesh.proofs.Following.{still}
 
 nth_map : {X Y : Type 0} (f : X → Y) (xs : List X) (i : ℕ) → slice_get (map f xs) i ≡ option_map f (slice_get xs i)

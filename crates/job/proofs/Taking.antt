@@ -1,12 +1,12 @@
 -- One vertex or triangle more is taken over.
-use Rattle.std.proofs.Common.{◌≡◌, ℕ, ◌+◌, ◌<◌, ◌≤◌, Bool, true, false, cond, ◌&&◌, ltb, leb, List, [], ◌∷◌, ◌++◌, length, get_or, take, Some, None, Option, sym, refl, ap, ◌∙◌, subst, arith, length-take, take_all, lt-ltb, le-leb}
+use Rattle.std.proofs.Common.{◌≡◌, ℕ, ◌+◌, ◌<◌, ◌≤◌, Bool, true, cond, ltb, List, [], ◌∷◌, ◌++◌, length, take, Some, None, Option, sym, refl, ap, ◌∙◌, arith, length-take, take_all, lt-ltb, le-leb}
 use Rattle.std.specs.Option.{option_map}
 use Rattle.std.specs.List.{slice_get}
 use Rattle.std.proofs.lemmas.Option.{slice_get-get_or}
 use Rattle.std.proofs.lemmas.List.{take_more}
 use Rattle.mesh.specs.Triangles.{Tri}
 use Rattle.mesh.specs.Meshes.{Mesh, Vertex, mesh_of, vertex_of, vertex_total, triangle_total, place_at}
-use Rattle.mesh.specs.Growth.{all_below, different, vertex_fits, triangle_fits, may_add_vertex, add_vertex, may_add_triangle, add_triangle}
+use Rattle.mesh.specs.Growth.{all_below, different, may_add_vertex, add_vertex, may_add_triangle, add_triangle}
 use Rattle.mesh.proofs.Tests.{true_and, some_inj, none_some, nth_below, some_there}
 use Rattle.job.specs.Copies.{Copyable, first_vertices, first_triangles}
 

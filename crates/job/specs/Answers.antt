@@ -1,5 +1,5 @@
 -- The numbers of a running job, and what its calls answer.
-use Rattle.std.specs.Prelude.{ℕ, Ok, Err, Result}
+use Rattle.std.specs.Prelude.{Ok, Err, Result}
 use Rattle.fault.specs.declared.fault.Fault.{Fault}
 use Rattle.runs.specs.Jobs.{Numbers}
 use Rattle.runs.specs.Calls.{report}

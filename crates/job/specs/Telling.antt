@@ -1,5 +1,5 @@
 -- What a job's calls tell, by the job's numbers.
-use Rattle.std.specs.Prelude.{ℕ, Ok, Err, Result}
+use Rattle.std.specs.Prelude.{Ok, Err, Result}
 use Rattle.fault.specs.declared.fault.Fault.{Fault}
 use Rattle.survey.specs.declared.counts.Counts.{Counts}
 use Rattle.runs.specs.Jobs.{Numbers, fresh_numbers}

@@ -1,7 +1,5 @@
-use Rattle.std.proofs.Common.{◌≡◌, ℕ, true, List, Ok, Err, Result, sym, refl, ap, ◌∙◌}
-use Rattle.fault.specs.declared.fault.Fault.{Fault}
-use Rattle.sheet.specs.Content.{sheet_mesh, sheet_fault_within}
-use Rattle.sheet.specs.Opening.{opened}
+use Rattle.std.proofs.Common.{sym, refl, ◌∙◌}
+use Rattle.sheet.specs.Content.{sheet_mesh}
 use Rattle.job.proofs.Bases.{within_room, empty_start, accepted, accepted_answer, accepted_mesh, accepted_small, accepted_copyable, refused_survey, refused_answer, refused_mesh}
 use Rattle.job.proofs.basing.take_base.Goals as goal
 

@@ -1,4 +1,4 @@
-use Rattle.std.proofs.Common.{◌≡◌, sym, ap, ◌∙◌}
+use Rattle.std.proofs.Common.{sym}
 use Rattle.mesh.specs.Triangles.{tri_of}
 use Rattle.mesh.proofs.Tests.{some_there}
 use Rattle.job.proofs.Taking.{triangle_taken}
@@ -12,5 +12,5 @@ returns-in-Some g c =
       room = c.add_triangle.ensures.room;
     }
 
-pub returns-in-default : goal.returns-in-default
-returns-in-default g c = absurd (some_there (g.A.ReadingSurface.mesh c.args.from.now).triangles c.args.t c.requires.triangle_there (sym c.in-default.ensures))
+pub returns-in_default : goal.returns-in_default
+returns-in_default g c = absurd (some_there (g.A.ReadingSurface.mesh c.args.from.now).triangles c.args.t c.requires.triangle_there (sym c.in_default.ensures))

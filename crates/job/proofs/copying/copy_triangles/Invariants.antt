@@ -1,5 +1,4 @@
 use Rattle.std.proofs.Common.{◌≡◌}
-use Rattle.mesh.specs.Growth.{SameRoom}
 use Rattle.job.specs.Copies.{first_triangles}
 use Rattle.job.proofs.copying.copy_triangles.Given as goal
 

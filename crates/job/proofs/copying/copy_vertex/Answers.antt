@@ -1,4 +1,3 @@
-use Rattle.std.proofs.Common.{◌≡◌, sym, ap, ◌∙◌}
 use Rattle.job.proofs.Taking.{vertex_taken, place_there}
 use Rattle.job.proofs.copying.copy_vertex.Goals as goal
 
@@ -10,5 +9,5 @@ returns-in-Some g c =
       room = c.add_vertex.ensures.room;
     }
 
-pub returns-in-default : goal.returns-in-default
-returns-in-default g c = absurd (place_there (g.A.ReadingSurface.mesh c.args.from.now) c.args.v c.requires.vertex_there c.in-default.ensures)
+pub returns-in_default : goal.returns-in_default
+returns-in_default g c = absurd (place_there (g.A.ReadingSurface.mesh c.args.from.now) c.args.v c.requires.vertex_there c.in_default.ensures)

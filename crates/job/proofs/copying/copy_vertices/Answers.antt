@@ -1,4 +1,4 @@
-use Rattle.std.proofs.Common.{◌≡◌, sym, ap, ◌∙◌, rules}
+use Rattle.std.proofs.Common.{◌∙◌, rules}
 use Rattle.job.proofs.Taking.{same_copyable, all_vertices}
 use Rattle.job.proofs.copying.copy_vertices.Goals as goal
 

@@ -1,4 +1,4 @@
-use Rattle.std.proofs.Common.{◌≡◌, ℕ, ◌-◌, sym, ap, ◌∙◌, arith, rules}
+use Rattle.std.proofs.Common.{◌≡◌, ℕ, ◌-◌, sym, ap, ◌∙◌, rules}
 use Rattle.mesh.specs.Follow.{back_steps}
 use Rattle.mesh.specs.Meshes.{parents}
 use Rattle.job.proofs.Steps.{back_more, back_still}

@@ -1,4 +1,4 @@
-use Rattle.std.proofs.Common.{◌∙◌, rules}
+use Rattle.std.proofs.Common.{rules}
 use Rattle.job.proofs.Steps.{step_some, step_none}
 use Rattle.job.proofs.following.back_step.Goals as goal
 
