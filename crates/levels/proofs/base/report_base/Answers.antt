@@ -1,5 +1,4 @@
-use Rattle.std.proofs.Common.{◌≡◌, Ok, Err, Result, ap, ◌∙◌}
-use Rattle.fault.specs.declared.fault.Fault.{Fault}
+use Rattle.std.proofs.Common.{Ok, Err, ap, ◌∙◌}
 use Rattle.job.specs.declared.closed.Report.{Report}
 use Rattle.job.specs.Answers.{job_of}
 use Rattle.levels.proofs.Reports.{reported_is}
