@@ -1,24 +1,20 @@
 -- A sheet has no fault exactly if it is laid out as that of a mesh.
-use Rattle.std.proofs.Common.{◌≡◌, ℕ, ◌+◌, ◌*◌, ◌<◌, ◌≤◌, Bool, true, false, cond, not, ◌&&◌, eqb, leb, List, map, length, get_or, drop, is_some, Some, None, Option, unwrap_or, sym, refl, ap, ◌∙◌, subst, arith, eq-eqb, le-leb}
-use borrow.Author.Tests.{clash, not-false}
-use Rattle.std.specs.List.{range_with_len, slice_get}
+use Rattle.std.proofs.Common.{◌≡◌, ℕ, ◌<◌, ◌≤◌, Bool, true, false, not, List, length, is_some, Some, None, Option, unwrap_or, sym, refl, ap, ◌∙◌, arith, eq-eqb, le-leb}
+use borrow.Author.Tests.{clash}
+use Rattle.std.specs.List.{slice_get}
 use Rattle.std.specs.Option.{option_map}
 use Rattle.fault.specs.declared.fault.Fault.{Fault}
 use Rattle.fault.specs.declared.fault.Fault.TheVariants.{NoPlace}
-use Rattle.fault.specs.Faults.{or_else}
 use Rattle.fault.proofs.Orders.{or_none, none_or, mapped_none}
 use Rattle.place.specs.Kinds.{Kind}
-use Rattle.place.specs.Words.{word}
-use Rattle.mesh.specs.Triangles.{Tri}
-use Rattle.mesh.specs.Searches.{first_in}
 use Rattle.mesh.specs.Limits.{counts_fault}
-use Rattle.mesh.specs.Meshes.{Mesh, Vertex, mesh_of, vertex_of, vertex_total, triangle_total, place_at, parent_at}
+use Rattle.mesh.specs.Meshes.{Mesh, Vertex, mesh_of, vertex_of, vertex_total, triangle_total}
 use Rattle.mesh.proofs.Tests.{true_and, some_inj, none_some, some_there}
 use Rattle.mesh.proofs.Firsts.{first_none, none_first}
 use Rattle.mesh.proofs.Indexed.{length_counted, counted_there, same_lists}
-use Rattle.sheet.specs.Layout.{vertices_of, triangles_of, place_offset, triangle_offset, sheet_size, unless, length_fault, version_fault, kind_fault, head_fault, size_fault, layout_fault}
+use Rattle.sheet.specs.Layout.{vertices_of, triangles_of, triangle_offset, sheet_size, unless, length_fault, version_fault, head_fault, layout_fault}
 use Rattle.sheet.specs.Content.{triangle_from, triangle_in, place_read, vertex_in, count_unless, vertices_in, triangles_in, sheet_mesh, no_place, place_fault, sheet_fault, LaidOut}
-use Rattle.sheet.specs.Bounds.{Right, right}
+use Rattle.sheet.specs.Bounds.{right}
 use Rattle.sheet.specs.Opening.{SheetExact}
 
 -- with a right layout the counts are those of the fields

@@ -1,11 +1,11 @@
 -- The places and triangles of a sheet lie within its bytes.
-use Rattle.std.proofs.Common.{◌≡◌, ℕ, ◌+◌, ◌*◌, ◌<◌, ◌≤◌, Bool, true, false, List, length, Some, None, Option, sym, refl, ap, ◌∙◌, mul-le-mul_right, arith}
+use Rattle.std.proofs.Common.{◌≡◌, ℕ, ◌+◌, ◌*◌, ◌<◌, ◌≤◌, List, length, Some, None, Option, refl, ap, ◌∙◌, mul-le-mul_right, arith}
 use Rattle.fault.specs.declared.fault.Fault.{Fault}
 use Rattle.place.specs.Kinds.{Kind}
 use Rattle.mesh.proofs.Indexed.{rows_below}
 use Rattle.sheet.specs.Layout.{vertices_of, triangles_of, place_offset, triangle_offset, sheet_size, layout_fault}
 use Rattle.sheet.specs.Content.{count_unless, vertices_in, triangles_in}
-use Rattle.sheet.specs.Bounds.{Right, right}
+use Rattle.sheet.specs.Bounds.{right}
 
 -- a sheet with a vertex or a triangle has a right layout
 pub counted_right : {P D : Type 0} (k : Kind P D) (bs : List ℕ) (n i : ℕ) → i < count_unless (layout_fault k bs) n → (layout_fault k bs ≡ None) × (i < n)

@@ -2,7 +2,7 @@
 use Rattle.std.proofs.Common.{◌≡◌, ℕ, List, Some, None, Ok, Err, Option, Result, sym, refl, ap, ◌∙◌, arith}
 use Rattle.fault.specs.declared.fault.Fault.{Fault}
 use Rattle.place.specs.Kinds.{Kind}
-use Rattle.mesh.specs.Meshes.{Mesh, vertex_total}
+use Rattle.mesh.specs.Meshes.{vertex_total}
 use Rattle.survey.specs.declared.counts.Counts.{Counts}
 use Rattle.survey.specs.Survey.{surveyed}
 use Rattle.survey.proofs.Exact.{SmallCounts, surveyed_small}

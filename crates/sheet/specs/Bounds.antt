@@ -1,17 +1,16 @@
 -- Proof that the mesh of a sheet is within the limits. It stands here since the surface shows it by a ghost member, which may not cite proofs/.
-use Rattle.std.specs.Prelude.{◌≡◌, ℕ, ◌+◌, ◌*◌, ◌<◌, ◌≤◌, Bool, true, false, cond, ◌&&◌, List, map, length, Some, None, Option, ◌==◌, nat_le, slice_index, refl}
-use Rattle.std.proofs.Common.{sym, ap, ◌∙◌, arith, eqb-true, leb-true}
+use Rattle.std.specs.Prelude.{◌≡◌, ℕ, ◌+◌, ◌≤◌, Bool, true, false, List, length, Some, None, Option, ◌==◌, nat_le, slice_index, refl}
+use Rattle.std.proofs.Common.{sym, arith, eqb-true, leb-true}
 use Rattle.fault.specs.declared.fault.Fault.{Fault}
-use Rattle.fault.specs.Faults.{or_else}
 use Rattle.fault.proofs.Orders.{or_none}
 use Rattle.place.specs.Kinds.{Kind}
 use Rattle.place.specs.Words.{word}
-use Rattle.mesh.specs.Limits.{between, counts_fault}
+use Rattle.mesh.specs.Limits.{counts_fault}
 use Rattle.mesh.specs.Meshes.{InLimits}
 use Rattle.mesh.proofs.Tests.{and_true, none_some}
 use Rattle.mesh.proofs.Bounds.{between_is, counts_none}
 use Rattle.mesh.proofs.Indexed.{length_counted}
-use Rattle.sheet.specs.Layout.{vertices_of, triangles_of, sheet_size, unless, length_fault, version_fault, kind_fault, head_fault, size_fault, layout_fault}
+use Rattle.sheet.specs.Layout.{vertices_of, triangles_of, sheet_size, unless, length_fault, version_fault, head_fault, layout_fault}
 use Rattle.sheet.specs.Content.{triangle_in, vertex_in, count_unless, vertices_in, triangles_in, sheet_mesh}
 
 -- what follows from a right layout

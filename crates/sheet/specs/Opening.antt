@@ -1,5 +1,5 @@
 -- What opening a sheet answers.
-use Rattle.std.specs.Prelude.{◌≡◌, ℕ, ◌≤◌, List, Some, None, Ok, Err, Option, Result}
+use Rattle.std.specs.Prelude.{◌≡◌, ℕ, List, Some, None, Ok, Err, Option, Result}
 use Rattle.fault.specs.declared.fault.Fault.{Fault}
 use Rattle.place.specs.Kinds.{Kind}
 use Rattle.mesh.specs.Meshes.{Mesh, vertex_total, triangle_total}

@@ -29,7 +29,7 @@ fn written(sheet: &[u8], out: &mut [u8]) -> usize {
 fn block_again(rt: HostRuntime) {
     let mut out = [7u8; 88];
     assert_eq!(rt; written(BLOCK, &mut out), 86);
-    assert!(rt; &out[0..86] == BLOCK);
+    assert!(rt; &out[0..86] == BLOCK.as_slice());
     assert_eq!(rt; out[86], 7);
     assert_eq!(rt; out[87], 7);
 }

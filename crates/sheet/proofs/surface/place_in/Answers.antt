@@ -1,6 +1,5 @@
-use Rattle.std.proofs.Common.{◌≡◌, ◌+◌, ◌*◌, drop, sym, ap, ◌∙◌, arith, rules}
+use Rattle.std.proofs.Common.{◌+◌, ◌*◌, drop, ap, ◌∙◌, rules}
 use Rattle.std.proofs.lemmas.List.{take_rest}
-use Rattle.sheet.specs.Content.{place_read}
 use Rattle.sheet.proofs.Fields.{place_within, place_offset_is}
 use Rattle.sheet.proofs.surface.place_in.Goals as goal
 

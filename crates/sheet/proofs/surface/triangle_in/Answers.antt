@@ -1,4 +1,4 @@
-use Rattle.std.proofs.Common.{◌≡◌, sym, ap, ◌∙◌, arith, rules}
+use Rattle.std.proofs.Common.{ap, ◌∙◌, arith, rules}
 use Rattle.sheet.specs.Content.{triangle_from}
 use Rattle.sheet.proofs.Fields.{triangle_within, offset_is}
 use Rattle.sheet.proofs.surface.triangle_in.Goals as goal
