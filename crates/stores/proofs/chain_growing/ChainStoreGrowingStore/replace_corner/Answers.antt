@@ -35,7 +35,7 @@ unlink-requires g c =
     let l : m ≤ length vs = search rules in
     let fit = sym (c.corner_fits.ensures ∙ ap (corner_fits m c.args.corner c.args.v) c.triangle-old.ensures) ∙ c.if-not-corner_fits.false in
     let q = may n m c.args.t c.args.corner c.args.v c.corner-from.result c.before-before.result rs vs (record { placed = s.placed; ends = s.ends; holds = s.holds }) c.if-i-self.false h fit c.corner-from.ensures c.before-before.ensures in
-    record { within = omega (arith, q.corner, c.if-i-self.false); prior = q.within; there = omega (arith, q.low) }
+    record { within = omega (arith, q.corner, c.if-i-self.false); prior = search (rules, q.within); there = omega (arith, q.low) }
 
 pub invariant_of-self : goal.invariant_of-self
 invariant_of-self g c =
