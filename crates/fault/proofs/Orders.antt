@@ -1,5 +1,5 @@
 -- Checks one after another.
-use Rattle.std.proofs.Common.{◌≡◌, ℕ, Some, None, Option, sym, refl, arith}
+use Rattle.std.proofs.Common.{◌≡◌, ℕ, Some, None, Option, refl, arith}
 use Rattle.std.specs.Option.{option_map}
 use Rattle.fault.specs.declared.fault.Fault.{Fault}
 use Rattle.fault.specs.Faults.{or_else}
