@@ -81,57 +81,53 @@ def statement(name, triangles, marks, codes, result):
     mesh = "flat %d (%s)" % (count, antt_list("tri %d %d %d" % t for t in triangles))
     data = antt_list(record_of(triangles, marks, codes))
     if result[0] == "told":
-        return "  pub %s : told-of (%s) (%s) ≡ Some (tells %d %d %d)\n" % ((name, mesh, data) + result[1:])
-    return "  pub %s : made-of (%s) (%s) ≡ split-of (%s) (%s)\n" % (
+        return "  pub %s : told_of (%s) (%s) ≡ Some (tells %d %d %d)\n" % ((name, mesh, data) + result[1:])
+    return "  pub %s : made_of (%s) (%s) ≡ split_of (%s) (%s)\n" % (
         name, mesh, data, antt_list("tri %d %d %d" % t for t in result[1]), antt_list(result[2]))
 
 
 HEAD = """-- Splits of small meshes, as an independent decoder gives them. Written by tools/definition_cases.py.
-use mathlib.Core.Path.{_≡_}
-use mathlib.Core.List.{List, [], _∷_, map}
-use Prim.Native.Nat.{ℕ}
-use Rattle·std.specs.Iters.{counting}
-use Rattle·std.specs.Options.{mapped}
-use Rattle·std.specs.declared.option.Option.{Option}
-use Rattle·std.specs.declared.option.Option.the-variants.{Some}
-use Rattle·fault.specs.Faults.{Told, told, tells}
-use Rattle·place.specs.declared.grid.Grid.{Grid}
-use Rattle·place.specs.Grids.{grid, grid-kind}
-use Rattle·mesh.specs.Triangles.{Tri, tri}
-use Rattle·mesh.specs.Meshes.{Mesh, mesh-of, vertex-of, parents}
-use Rattle·runs·specs.Jobs.{base-numbers}
-use Rattle·runs·specs.Outcome.{split-fault, split-mesh-after}
+use Rattle.std.specs.Prelude.{◌≡◌, ℕ, List, [], ◌∷◌, map, Some, Option}
+use Rattle.std.specs.List.{range_with_len}
+use Rattle.std.specs.Option.{option_map}
+use Rattle.fault.specs.Faults.{Told, told, tells}
+use Rattle.place.specs.declared.grid.Grid.{Grid}
+use Rattle.place.specs.Grids.{grid, grid_kind}
+use Rattle.mesh.specs.Triangles.{Tri, tri}
+use Rattle.mesh.specs.Meshes.{Mesh, mesh_of, vertex_of, parents}
+use Rattle.runs.specs.Jobs.{base_numbers}
+use Rattle.runs.specs.Outcome.{split_fault, split_mesh_after}
 
 -- a mesh of the grid whose vertices all lie in its origin
 abbrev pub flat : ℕ → List Tri → Mesh Grid
-flat V ts = mesh-of ts (map (λ v. vertex-of (grid 0 0 0) v) (counting 0 V))
+flat V ts = mesh_of ts (map (λ v. vertex_of (grid 0 0 0) v) (range_with_len 0 V))
 
 -- a mesh by its triangles and its parents
 pub record Split : Type 0 where
   pub triangles : List Tri
   pub parents : List ℕ
 
-abbrev pub split-of : List Tri → List ℕ → Split
-split-of ts ps = record { triangles = ts; parents = ps }
+abbrev pub split_of : List Tri → List ℕ → Split
+split_of ts ps = record { triangles = ts; parents = ps }
 
 -- what a split call makes of the mesh of a new job, with room for 64 vertices and 128 triangles
-abbrev pub made-of : Mesh Grid → List ℕ → Split
-made-of m bs = let after = split-mesh-after grid-kind 64 128 3072 m (base-numbers m) bs in split-of (after .triangles) (parents after)
+abbrev pub made_of : Mesh Grid → List ℕ → Split
+made_of m bs = let after = split_mesh_after grid_kind 64 128 3072 m (base_numbers m) bs in split_of after.triangles (parents after)
 
-abbrev pub told-of : Mesh Grid → List ℕ → Option Told
-told-of m bs = mapped told (split-fault grid-kind 64 128 3072 m (base-numbers m) bs)
+abbrev pub told_of : Mesh Grid → List ℕ → Option Told
+told_of m bs = option_map told (split_fault grid_kind 64 128 3072 m (base_numbers m) bs)
 
-pub record Decoded-cases : Type 0 where
+pub record DecodedCases : Type 0 where
 """
 
 
-PROOF = """use mathlib.Core.Path.{refl}
-use Rattle·survey.specs.Checks.{first-bad, first-repeated, first-open}
-use Rattle·survey.specs.Ringwalk.{first-unringed}
-use Rattle·runs·proofs.theorems.decoded_cases.Needs as need
+PROOF = """use Rattle.std.proofs.Common.{refl}
+use Rattle.survey.specs.Checks.{first_bad, first_repeated, first_open}
+use Rattle.survey.specs.Ringwalk.{first_unringed}
+use Rattle.runs.proofs.theorems.decoded_cases.Goals as goal
 
-pub returns : need.returns
-unfolding first-bad first-repeated first-open first-unringed
+pub returns : goal.returns
+unfolding first_bad first_repeated first_open first_unringed
 returns c = record {
 %s}
 """
@@ -154,7 +150,7 @@ def main():
         accepted += result[0] == "split"
         if result[0] == "split" and len(meshes) < 9:
             meshes.append(result[1])  # a level deeper
-        name = "case-%d" % number
+        name = "case_%d" % number
         names.append(name)
         lines.append(statement(name, triangles, marks, codes, result))
     crate = pathlib.Path(__file__).resolve().parent.parent / "crates" / "runs"

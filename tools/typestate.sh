@@ -3,19 +3,19 @@
 # the compiler has to name. A copy of the crates is made in a temporary folder, so nothing here is changed.
 set -euo pipefail
 cd "$(dirname "$0")/.."
+programs=$PWD/tools/typestate
 copy=$(mktemp -d)
 trap 'rm -rf "$copy"' EXIT
 cp -r crates crates.txt "$copy"
-[ -d target ] && cp -r target "$copy"
-cd "$copy"
-mkdir -p crates/misuse/src
-echo 'misuse: fault place mesh survey sheet stores record forest runs job' >> crates.txt
+mkdir -p "$copy/crates/misuse/src"
+echo 'misuse: fault place mesh survey sheet stores record forest runs job' >> "$copy/crates.txt"
+cd "$copy/crates/misuse"
 failed=0
-for file in "$OLDPWD"/tools/typestate/*.misuse; do
+for file in "$programs"/*.misuse; do
     name=$(basename "$file" .misuse)
     expected=$(sed -n 's/^# refused by //p' "$file")
-    grep -v '^#' "$file" > crates/misuse/src/main.rt
-    found=$(rt check misuse 2>&1 | grep -o 'error\[[a-z0-9-]*\]' | head -n 1 || true)
+    grep -v '^#' "$file" > src/main.rt
+    found=$(rt check 2>&1 | grep -Eo 'error\[[a-z0-9-]*\]' | head -n 1 || true)
     if [ "$found" = "error[$expected]" ]; then
         echo "$name: refused by $found"
     else
