@@ -2,7 +2,8 @@
 # Proves the survey for C, links the example with it, and runs it on a file (the block if none is named).
 set -euo pipefail
 cd "$(dirname "$0")/.."
-rt staticlib survey_c >&2
-mkdir -p target/c
+(cd crates/survey_export && rt lib) >&2
+mkdir -p target/c target/staticlib
+cp crates/survey_export/out/libsurvey_export.a target/staticlib/libsurvey_c.a
 cc -Wall -O2 -Iinclude examples/c/survey.c target/staticlib/libsurvey_c.a -o target/c/survey
 exec target/c/survey < "${1:-samples/block.sheet}"

@@ -1,4 +1,4 @@
-// The call that a C program makes.
+// The call that a C program makes, for Rattle programs: the crate survey_export hands it to C.
 ghost use Rattle.std.specs.Prelude.{◌≡◌};
 ghost use Rattle.survey_c.specs.Answers.{answer, after};
 
@@ -7,8 +7,7 @@ use crate::surveying::survey_any;
 use fault::Fault;
 
 // 0 with V, E, T and V − E + T in the first 16 bytes of `out`, or the refusal's number with nothing written.
-#[unsafe(no_mangle)]
-pub extern "C" fn wz_survey_sheet(sheet: &[u8], out: &mut [u8]) -> u32
+pub fn wz_survey_sheet(sheet: &[u8], out: &mut [u8]) -> u32
     ensures answer { result ≡ answer sheet.now out.old }
     ensures after { out.new ≡ after sheet.now out.old }
 {
