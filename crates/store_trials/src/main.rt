@@ -4,7 +4,7 @@
 mod play;
 
 use mesh::Triangle;
-use place::{FloatPlace, Grid, Place};
+use place::{FloatPlace, Grid};
 use play::{Answers, play};
 use std::fs;
 use stores::{ChainStore, ChainTriangle, ChainVertex, ListStore, VertexRecord};
