@@ -1,7 +1,7 @@
 -- Any two runs from the same base mesh.
 use Rattle.std.proofs.Common.{◌≡◌, ℕ, zero, suc, ◌+◌, ◌*◌, ◌<◌, ◌≤◌, Bool, true, false, cond, ltb, List, [], ◌∷◌, map, length, take, is_some, Some, None, Option, sym, refl, ap, ◌∙◌, subst, arith, ltb-true, eq-eqb}
 use Rattle.std.proofs.lemmas.List.{take_all, take-take, take-map}
-use Rattle.std.specs.List.{range_with_len, AllByRecursion as All, slice_get}
+use Rattle.std.specs.List.{range_with_len, AllByRecursion, slice_get}
 use Rattle.std.specs.Option.{option_map}
 use Rattle.fault.specs.declared.fault.Fault.{Fault}
 use Rattle.fault.specs.declared.fault.Fault.TheVariants.{StoreNotClosed, StoreNotOfJob}
@@ -111,7 +111,7 @@ module _ {P D : Type 0} (k : Kind P D) (law : Lawful k) (vertex-room triangle-ro
   answer_trusts s (ask q) h = question_trusts s.mesh q
   answer_trusts s (write_sheet n) h = safe_writing k s.mesh n
 
-  answers_trust : (cs : List Call) (s : State P) → Held base s.mesh s.numbers → All Trusts (answers k vertex-room triangle-room s cs)
+  answers_trust : (cs : List Call) (s : State P) → Held base s.mesh s.numbers → AllByRecursion Trusts (answers k vertex-room triangle-room s cs)
   answers_trust [] s h = tt
   answers_trust (c ∷ cs) s h = (answer_trusts s c h, answers_trust cs (next k vertex-room triangle-room s c) (next_held s c h))
 

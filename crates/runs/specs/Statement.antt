@@ -1,7 +1,7 @@
 -- What holds of any two jobs that took the same base mesh.
 use Rattle.std.specs.Prelude.{◌≡◌, ℕ, ◌+◌, ◌*◌, ◌<◌, List, Some, ◌≢◌}
 use Rattle.std.specs.Option.{option_map}
-use Rattle.std.specs.List.{AllByRecursion as All, slice_get}
+use Rattle.std.specs.List.{AllByRecursion, slice_get}
 use Rattle.fault.specs.declared.fault.Fault.TheVariants.{StoreNotClosed, StoreNotOfJob}
 use Rattle.place.specs.Kinds.{Kind}
 use Rattle.mesh.specs.Closed.{Closed}
@@ -20,7 +20,7 @@ Trusts a = (refusal a ≢ Some StoreNotClosed) × (refusal a ≢ Some StoreNotOf
 pub record Kept {P D : Type 0} (k : Kind P D) (vertex-room triangle-room : ℕ) (base : Mesh P) (calls : List Call) (s : State P) : Type 0 where
   -- the mesh is closed, and no call found that it was not, or that it was not the job's
   pub closed : Closed (vertex_total s.mesh) s.mesh.triangles
-  pub trusted : All Trusts (answers k vertex-room triangle-room (begun base) calls)
+  pub trusted : AllByRecursion Trusts (answers k vertex-room triangle-room (begun base) calls)
   -- vertices less edges plus triangles is as in the base
   pub figure : euler s.mesh ≡ euler base
   -- the triangles are those of the base and two for each forest edge less two for each tree, over the run's accepted splits
