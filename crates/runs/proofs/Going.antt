@@ -5,7 +5,7 @@ use Rattle.place.specs.Kinds.{Kind}
 use Rattle.sheet.specs.Content.{sheet_mesh}
 use Rattle.runs.specs.Jobs.{base_numbers, empty_fault, mesh_unless}
 use Rattle.runs.specs.Calls.{State, state_of, Call, next}
-use Rattle.runs.specs.Runs.{begun, after, Goes_on, RunsBegin, RunsGoOn}
+use Rattle.runs.specs.Runs.{begun, after, GoesOn, RunsBegin, RunsGoOn}
 
 pub runs_begin : {P D : Type 0} (k : Kind P D) → RunsBegin k
 runs_begin {P} {D} k vr tr m sheet room e = record {
@@ -19,7 +19,7 @@ after_one k vr tr [] s c = refl
 after_one k vr tr (d ∷ cs) s c = after_one k vr tr cs (next k vr tr s d) c
 
 -- the state that a call leads to, however it is given
-pub goes_on : {P D : Type 0} (k : Kind P D) (vr tr : ℕ) (s : State P) (c : Call) (t : State P) → t ≡ next k vr tr s c → Goes_on k vr tr s c t
+pub goes_on : {P D : Type 0} (k : Kind P D) (vr tr : ℕ) (s : State P) (c : Call) (t : State P) → t ≡ next k vr tr s c → GoesOn k vr tr s c t
 goes_on k vr tr s c t e sheet cs r = record {
   room = r.room;
   accepted = r.accepted;

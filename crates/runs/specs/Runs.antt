@@ -64,10 +64,10 @@ RunsBegin {P} {D} k =
     → Run k vertex-room triangle-room sheet [] (state_of (base_mesh k vertex-room triangle-room m sheet) (base_numbers (sheet_mesh k sheet)))
 
 -- a call that leads from s to t goes on every run that ends in s
-abbrev pub Goes_on : {P D : Type 0} → Kind P D → ℕ → ℕ → State P → Call → State P → Type 0
-Goes_on k vertex-room triangle-room s c t =
+abbrev pub GoesOn : {P D : Type 0} → Kind P D → ℕ → ℕ → State P → Call → State P → Type 0
+GoesOn k vertex-room triangle-room s c t =
     (sheet : List ℕ) (calls : List Call) → Run k vertex-room triangle-room sheet calls s → Run k vertex-room triangle-room sheet (calls ++ (c ∷ [])) t
 
 -- every call goes on every run
 abbrev pub RunsGoOn : {P D : Type 0} → Kind P D → Type 0
-RunsGoOn {P} {D} k = (vertex-room triangle-room : ℕ) (s : State P) (c : Call) → Goes_on k vertex-room triangle-room s c (next k vertex-room triangle-room s c)
+RunsGoOn {P} {D} k = (vertex-room triangle-room : ℕ) (s : State P) (c : Call) → GoesOn k vertex-room triangle-room s c (next k vertex-room triangle-room s c)
