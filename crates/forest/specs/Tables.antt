@@ -1,5 +1,5 @@
 -- What the numbers of a work table stand for: sides, marks, triangles, and the trees one after another.
-use Rattle.std.specs.Prelude.{ℕ, suc, ◌+◌, ◌-◌, ◌/◌, ◌%◌, ◌<◌, Bool, cond, List, [], ◌∷◌, ◌++◌, map, length, take, drop, Some, None, Option, ◌==◌, slice_index}
+use Rattle.std.specs.Prelude.{ℕ, suc, ◌-◌, ◌/◌, ◌%◌, ◌<◌, Bool, cond, List, [], ◌∷◌, ◌++◌, map, length, take, drop, Some, None, Option, ◌==◌, slice_index}
 use Rattle.mesh.specs.Triangles.{Tri, tri}
 use Rattle.mesh.specs.Sides.{Side, side}
 use Rattle.forest.specs.Loops.{hop, loop}
@@ -30,11 +30,6 @@ word_tris [] = []
 word_tris (a ∷ []) = []
 word_tris (a ∷ b ∷ []) = []
 word_tris (a ∷ b ∷ c ∷ ws) = tri a b c ∷ word_tris ws
-
--- the sum of the listed numbers
-abbrev pub total : List ℕ → ℕ
-total [] = 0
-total (n ∷ ns) = n + total ns
 
 -- The loops of trees one after another, from their root sides, by their numbers of sides, each mirrored or not.
 abbrev pub walked : List Tri → List Side → List Side → List ℕ → List Bool → List Side

@@ -1,6 +1,6 @@
 // The base: item 0 of the input.
-ghost use Rattle.std.specs.Prelude.{◌≡◌};
-ghost use Rattle.levels.specs.Bases.{base_report};
+ghost use Rattle.std.specs.Prelude.{◌≡◌, IfOk};
+ghost use Rattle.levels.specs.Bases.{base_report, BaseRead};
 
 use fault::Fault;
 use items::{Item, next_item};
@@ -29,7 +29,9 @@ fn report_base(bytes: &[u8]) -> Result<Report, Fault>
 }
 
 // The base's report, or why it is refused; a sheet that is cut short or too long for the buffer has a wrong length.
-pub fn read_base<R: Read>(input: &mut R, buffer: &mut [u8]) -> io::Result<Result<Report, Fault>> {
+pub fn read_base<R: Read>(input: &mut R, buffer: &mut [u8]) -> io::Result<Result<Report, Fault>>
+    ensures { IfOk result (λ r. BaseRead buffer.new r) }
+{
     match next_item(input, buffer)? {
         Item::Whole(size) => Ok(report_base(&buffer[0..size])),
         Item::Ended | Item::Broken => Ok(Err(Fault::SheetLength)),
