@@ -7,7 +7,8 @@ pub enum Count {
     Triangles,
 }
 
-// A case for each refusal, in the order of their numbers from 1 to 34. What a case holds is where the fault lies.
+// A case for each refusal, in the order of their numbers from 1 to 34. What a case holds is where the fault lies, or
+// how many bytes a buffer that is too short would have to have.
 #[derive(Clone, Copy, PartialEq, Eq, Debug)]
 pub enum Fault {
     // Of the calling program.

@@ -1,14 +1,17 @@
 -- Worked cases, proved by computation.
-use Rattle.std.specs.Prelude.{◌≡◌, Bool, true, false, List, [], ◌∷◌, replicate, pos, negsuc, Some, None}
+use Rattle.std.specs.Prelude.{◌≡◌, Bool, true, false, List, [], ◌∷◌, map, take, replicate, pos, negsuc, Some, None}
 use Rattle.fault.specs.declared.fault.Fault.TheVariants.{NoMark, MarkClosesLoop, SingleEdgeTree, CodeCount, CodesOffTree, SideTwice, NoDisplacedPlace}
 use Rattle.place.specs.declared.grid.Grid.{Grid}
 use Rattle.place.specs.declared.grid.GridDisplacement.{GridDisplacement}
 use Rattle.place.specs.Grids.{grid, grid_displacement, grid_kind}
 use Rattle.mesh.specs.Triangles.{Tri, tri}
+use Rattle.mesh.specs.Sides.{side, sides}
 use Rattle.mesh.specs.Meshes.{Mesh, mesh_of, vertex_of}
-use Rattle.forest.specs.Trees.{below, trees}
+use Rattle.forest.specs.Marks.{has_side}
+use Rattle.forest.specs.Trees.{start, below, trees}
+use Rattle.forest.specs.Roots.{root, mirrored}
 use Rattle.forest.specs.Polygons.{Code, neither, only_left, only_right, both, polygon}
-use Rattle.forest.specs.Splitting.{marked_of, all_numbers, split_triangles, split_vertices, split_parents, forest_fault, sewing_fault}
+use Rattle.forest.specs.Splitting.{marked_of, all_numbers, kept_triangles, added_triangles, split_triangles, split_vertices, split_parents, forest_fault, sewing_fault}
 use Rattle.forest.specs.Places.{place_fault, split_mesh}
 
 -- the block with four vertices, whose edges are 0–1, 0–2, 0–3, 1–2, 1–3, 2–3
@@ -73,6 +76,7 @@ still = grid_displacement (pos 0) (pos 0) (pos 0)
 pub record SplitCases : Type 0 where
   -- the plain tree
   pub plain_marks_pass : forest_fault 4 block plain_marks 2 ≡ None
+  pub plain_as_it_stands : mirrored block (marked_of block plain_marks) 0 ≡ false
   pub plain_codes_pass : sewing_fault 4 block plain_marks two_codes ≡ None
   pub plain_loop : all_numbers 4 block (marked_of block plain_marks) ≡ 0 ∷ 1 ∷ 2 ∷ 4 ∷ []
   pub plain_count : split_vertices 4 block (marked_of block plain_marks) ≡ 5
@@ -80,6 +84,7 @@ pub record SplitCases : Type 0 where
   pub plain_triangles : split_triangles 4 block (marked_of block plain_marks) two_codes ≡ tri 0 1 2 ∷ tri 0 2 3 ∷ tri 0 3 4 ∷ tri 4 3 2 ∷ tri 0 4 1 ∷ tri 4 2 1 ∷ []
   -- the mirrored tree
   pub mirrored_marks_pass : forest_fault 4 block mirrored_marks 2 ≡ None
+  pub mirrored_indeed : mirrored block (marked_of block mirrored_marks) 0 ≡ true
   pub mirrored_codes_pass : sewing_fault 4 block mirrored_marks two_codes ≡ None
   pub mirrored_loop : all_numbers 4 block (marked_of block mirrored_marks) ≡ 1 ∷ 0 ∷ 2 ∷ 4 ∷ []
   pub mirrored_parents : split_parents 4 block (marked_of block mirrored_marks) ≡ 0 ∷ []
@@ -88,6 +93,8 @@ pub record SplitCases : Type 0 where
   pub torus_marks_pass : forest_fault 12 torus torus_marks 12 ≡ None
   pub torus_codes_pass : sewing_fault 12 torus torus_marks torus_codes ≡ None
   pub torus_trees : trees 12 (marked_of torus torus_marks) ≡ 0 ∷ 1 ∷ 3 ∷ []
+  pub torus_roots : map (λ k. start (root (marked_of torus torus_marks) k)) (0 ∷ 1 ∷ 3 ∷ []) ≡ 4 ∷ 1 ∷ 5 ∷ []
+  pub torus_mirrored : map (mirrored torus (marked_of torus torus_marks)) (0 ∷ 1 ∷ 3 ∷ []) ≡ true ∷ false ∷ false ∷ []
   pub torus_parents : split_parents 12 torus (marked_of torus torus_marks) ≡ 8 ∷ 0 ∷ 0 ∷ 6 ∷ 2 ∷ 3 ∷ []
   pub torus_triangles : split_triangles 12 torus (marked_of torus torus_marks) torus_codes ≡ torus_after
   -- refusals
@@ -97,6 +104,9 @@ pub record SplitCases : Type 0 where
   pub codes_missing : forest_fault 4 block plain_marks 1 ≡ Some CodeCount
   pub off_tree : sewing_fault 4 block plain_marks (neither ∷ neither ∷ []) ≡ Some (CodesOffTree 0)
   pub side_twice : sewing_fault 4 block plain_marks (only_left ∷ neither ∷ []) ≡ Some (SideTwice 4)
+  -- that side is 0→2: an old triangle has it, and so has the first that is added
+  pub side_kept : has_side (side 0 2) (sides (kept_triangles 4 block (marked_of block plain_marks))) ≡ true
+  pub side_added : has_side (side 0 2) (sides (take 1 (added_triangles 4 block (marked_of block plain_marks) (only_left ∷ neither ∷ [])))) ≡ true
   -- the corners of a polygon with sixteen positions, by fourteen codes
   pub sixteen : polygon false 16 (below 16) fourteen_codes
       ≡ tri 0 2 1 ∷ tri 0 15 2 ∷ tri 15 3 2 ∷ tri 15 14 3 ∷ tri 14 13 3 ∷ tri 13 8 3 ∷ tri 13 10 8 ∷ tri 13 11 10 ∷ tri 13 12 11 ∷ tri 10 9 8 ∷ tri 8 4 3 ∷ tri 8 7 4 ∷ tri 7 5 4 ∷ tri 7 6 5 ∷ []

@@ -15,17 +15,18 @@ abbrev pub read_as : Bool → List Tri → List Tri
 read_as true ts = map flipped ts
 read_as false ts = ts
 
--- z of the first triangle (x, y, z), however it is rotated, with the side x→y
+-- z of the first triangle (x, y, z), however it is rotated, with the side x→y; 0 if there is none
 abbrev pub apex : List Tri → ℕ → ℕ → ℕ
 apex [] x y = 0
 apex (tri a b c ∷ ts) x y = cond (a == x && b == y) c (cond (b == x && c == y) a (cond (c == x && a == y) b (apex ts x y)))
 
--- From the side u→v round v, over n triangles at most: the end of the first marked side that leaves v.
+-- From the side u→v round v, over n triangles at most: the end of the first marked side that leaves v. There is one on a
+-- closed mesh with a marked edge at v.
 abbrev pub found : ℕ → List Tri → List Side → ℕ → ℕ → Option ℕ
 found zero ts ms u v = None
 found (suc n) ts ms u v = cond (is_marked ms v (apex ts u v)) (Some (apex ts u v)) (found n ts ms (apex ts u v) v)
 
--- the corners at v that are passed on the way, the corner of (v, x, y) as x→y
+-- the corners at v that are passed on the way, from that of the triangle with u→v on; the corner at v of (v, x, y) is listed as x→y
 abbrev pub run : ℕ → List Tri → List Side → ℕ → ℕ → List Side
 run zero ts ms u v = []
 run (suc n) ts ms u v = side (apex ts u v) u ∷ cond (is_marked ms v (apex ts u v)) [] (run n ts ms (apex ts u v) v)

@@ -33,11 +33,11 @@ parents seen (s ∷ ss) = cond (has (start s) seen) (start s ∷ parents (start 
 abbrev pub run_numbers : List ℕ → List ℕ
 run_numbers ns = drop 1 ns ++ take 1 ns
 
--- (v, x, y) is a corner of the run after the side s
+-- (v, x, y) is a corner of the run after the side s; a mirrored tree reads the triangle as (v, y, x)
 abbrev pub passes : List Tri → List Side → Bool → ℕ → ℕ → ℕ → Side → Bool
 passes ts ms mirror v x y s = end s == v && has_side (cond mirror (side y x) (side x y)) (run_after ts ms mirror s)
 
--- the number of the corner (v, x, y), now w, after the runs behind the sides of one tree have taken theirs
+-- the number of the corner (v, x, y), now w, once the run after each of the sides has given its corners the number at the same index
 abbrev pub renumber : List Tri → List Side → Bool → List Side → List ℕ → ℕ → ℕ → ℕ → ℕ → ℕ
 renumber ts ms mirror [] ns v x y w = w
 renumber ts ms mirror (s ∷ ss) [] v x y w = w

@@ -30,14 +30,14 @@ span (suc n) (c ∷ cs) = suc (span (after c n) cs)
 pub data Open : Type 0 where
   open_part : ℕ → ℕ → Open
 
--- the third corner O of the triangle between R and L, at a code before cs
+-- the third corner O of the triangle between R and L (in this order), at a code before cs
 abbrev pub third : Code → ℕ → ℕ → List Code → ℕ
 third neither r l cs = r + 1
 third only_left r l cs = r + 1
 third only_right r l cs = l - 1
 third both r l cs = l - 1 - span 1 cs
 
--- the parts that a code opens, the left before the right
+-- the parts that a code of the triangle with the corners R, O and L (in this order) opens, the left before the right
 abbrev pub opened : Code → ℕ → ℕ → ℕ → List Open → List Open
 opened neither r o l st = st
 opened only_left r o l st = open_part o l ∷ st

@@ -31,7 +31,7 @@ root_of ms (s ∷ ss) = best ms s ss
 abbrev pub root : List Side → ℕ → Side
 root ms k = root_of ms (two_way (tree_edges ms k))
 
--- the first of two triangle numbers is there, and lower than the second
+-- the first of two triangle numbers is there, and lower than the second, if that is there
 abbrev pub lower : Option ℕ → Option ℕ → Bool
 lower None o = false
 lower (Some i) None = true

@@ -50,7 +50,8 @@ abbrev pub unmarked_fault : List Side → Option Fault
 unmarked_fault [] = Some NoMark
 unmarked_fault (m ∷ ms) = None
 
--- the first marked edge, numbered from n on, that joins two vertices of one label
+-- the first marked edge, numbered from n on, that joins two vertices of one label; l are the labels so far, and each marked
+-- edge before it merges those of its ends
 abbrev pub first_closing : (ℕ → ℕ) → ℕ → List Side → List Bool → Option ℕ
 first_closing l n [] bs = None
 first_closing l n (e ∷ es) [] = None

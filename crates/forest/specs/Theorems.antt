@@ -161,7 +161,8 @@ abbrev pub first_with : ℕ → List Side → List Tri → Option ℕ
 first_with n ss [] = None
 first_with n ss (tri x y z ∷ us) = cond (has_side (side x y) ss || (has_side (side y z) ss || has_side (side z x) ss)) (Some n) (first_with (suc n) ss us)
 
--- only an added triangle can have a side twice, and then with a kept one
+-- The first triangle with a side that a lower one has is the first added triangle that has a side of a kept one; if there is
+-- none of these, no side is there twice.
 abbrev pub TwiceAdded : Type 0
 TwiceAdded =
     (V : ℕ) (ts : List Tri) (bs : List Bool) (n : ℕ) (cs : List Code) → Closed V ts → forest_fault V ts bs n ≡ None → first_unclosed (marked_of ts bs) 0 (trees V (marked_of ts bs)) cs ≡ None

@@ -88,7 +88,7 @@ pub fn split_keeps() -> u8
     0
 }
 
-// Only an added triangle can have a side twice, and then with a kept one.
+// The first triangle with a side that a lower one has is the first added one that has a side of a kept one.
 pub fn twice_added() -> u8
     ensures { TwiceAdded }
 {

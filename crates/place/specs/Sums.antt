@@ -33,9 +33,9 @@ float_sum n m = option_map (λ (p : FloatPlace). to_bits binary32 p.x) (float_ki
 
 -- How sums of floats are rounded, and which are refused.
 pub record FloatSums : Type 0 where
-  -- 1 and 2 ^ -24 are halfway from 1 to the next number: 1 is the even one
+  -- the sum of 1 and 2 ^ -24 lies halfway between 1 and the next number: the even one of the two is 1
   pub tie_down : float_sum 0x3f80_0000 0x3380_0000 ≡ Some 0x3f80_0000
-  -- that next number and 2 ^ -24 are halfway too: the number above is the even one
+  -- the sum of that next number and 2 ^ -24 lies halfway too: the even one is the number above
   pub tie_up : float_sum 0x3f80_0001 0x3380_0000 ≡ Some 0x3f80_0002
   -- the largest number and half its last place are rounded to infinity
   pub over : float_sum 0x7f7f_ffff 0x7300_0000 ≡ None

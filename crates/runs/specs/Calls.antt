@@ -30,6 +30,7 @@ pub data Question : Type 0 where
   which_corners : ℕ → Question
   which_place : ℕ → Question
   which_parent : ℕ → Question
+  -- the lowest triangle with the side from one to the other
   which_triangle : ℕ → ℕ → Question
   which_counts : Question
   which_edge : ℕ → Question

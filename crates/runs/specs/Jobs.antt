@@ -38,7 +38,8 @@ is_empty m = vertex_total m == 0 && triangle_total m == 0
 abbrev pub empty_fault : {P : Type 0} → Mesh P → Option Fault
 empty_fault m = cond (is_empty m) None (Some StoreNotEmpty)
 
--- the checks of the base call on a store with this room and this mesh: the store is empty, the sheet fits it and is sound, its mesh is closed
+-- the checks of the base call on a store with this room and this mesh: the store is empty, the
+-- sheet is laid out as it should be, fits the store and holds places, and its mesh is closed
 abbrev pub base_fault : {P D : Type 0} → Kind P D → ℕ → ℕ → Mesh P → List ℕ → Option Fault
 base_fault k vertex-room triangle-room m bs =
     or_else (empty_fault m) (or_else (sheet_fault_within k vertex-room triangle-room bs) (survey_fault (vertex_total (sheet_mesh k bs)) (sheet_mesh k bs).triangles))

@@ -37,7 +37,7 @@ pub record SameBase {P Q : Type 0} (a : Mesh P) (b : Mesh Q) : Type 0 where
   pub vertices : vertex_total a ≡ vertex_total b
   pub triangles : a.triangles ≡ b.triangles
 
--- what holds of two runs from the same base mesh, that end in a and b
+-- what holds of two runs from the same base mesh, that end in a and b, on stores with room for va and vb vertices and ta and tb triangles
 pub record BothKept {P D Q C : Type 0} (k : Kind P D) (l : Kind Q C) (va ta vb tb : ℕ) (one : Mesh P) (two : Mesh Q) (xs ys : List Call) (a : State P) (b : State Q) : Type 0 where
   pub first : Kept k va ta one xs a
   pub second : Kept l vb tb two ys b

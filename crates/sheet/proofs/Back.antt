@@ -3,6 +3,7 @@ use Rattle.std.proofs.Common.{◌≡◌, ℕ, zero, suc, ◌+◌, ◌*◌, ◌^�
 use Rattle.std.specs.Option.{option_map}
 use Rattle.std.specs.List.{slice_get}
 use Rattle.std.proofs.lemmas.List.{append-nil, drop_at, drop-drop, get_or-drop}
+use Rattle.fault.proofs.Orders.{or_none}
 use Rattle.place.specs.Kinds.{Kind, Lawful}
 use Rattle.place.specs.Words.{word, word_bytes}
 use Rattle.place.specs.Numbers.{word_back}
@@ -14,6 +15,8 @@ use Rattle.mesh.specs.Limits.{counts_fault}
 use Rattle.mesh.specs.Meshes.{Mesh, Vertex, InLimits, vertex_of, vertex_total, triangle_total}
 use Rattle.mesh.proofs.Tests.{some_inj, none_some}
 use Rattle.mesh.proofs.Bounds.{between_is, counts_none}
+use Rattle.survey.specs.Theorems.{ClosedInLimits}
+use Rattle.survey.proofs.Exact.{closed_survey}
 use Rattle.sheet.specs.Layout.{sheet_size, triangle_offset}
 use Rattle.sheet.specs.Content.{triangle_from, place_read, sheet_mesh, LaidOut}
 use Rattle.sheet.specs.Writing.{rows, vertex_bytes, triangle_bytes, body_bytes, sheet_bytes}
@@ -148,10 +151,16 @@ closed_numbered V ts h d (tri a b c) m =
     let y = (d.fits b c a (mem_link m at_second)).0 in
     let z = (d.fits c a b (mem_link m at_third)).0 in (omega arith, omega arith, omega arith)
 
+-- the counts of a closed mesh are in their limits, if it is no larger than a mesh may be
+pub closed_counts : {P : Type 0} (m : Mesh P) → InLimits m → Closed (vertex_total m) m.triangles → counts_fault (vertex_total m) (triangle_total m) ≡ None
+closed_counts m l d =
+    let in_limits : ClosedInLimits (vertex_total m) m.triangles = record { few_vertices = l.few_vertices; few_triangles = l.few_triangles; closed = d } in
+    let sound = or_none (counts_fault (vertex_total m) (triangle_total m)) _ (closed_survey (vertex_total m) m.triangles in_limits) in sound.0
+
 pub sheets_read_back : {P D : Type 0} (k : Kind P D) → Lawful k → SheetsReadBack k
 sheets_read_back {P} k law = record {
   read_back = λ m w. reads_back k law m w;
-  closed = λ m c h d. reads_back k law m (record { counts = c; held = h; numbered = closed_numbered (vertex_total m) m.triangles (within m c).few_vertices d });
+  closed = λ m l h d. reads_back k law m (record { counts = closed_counts m l d; held = h; numbered = closed_numbered (vertex_total m) m.triangles l.few_vertices d });
   apart = λ m n v w e.
       let a = reads_back k law m v in
       let b = reads_back k law n w in

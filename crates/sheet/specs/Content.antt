@@ -23,7 +23,8 @@ triangle_in width bs t = triangle_from bs (triangle_offset width (vertices_of bs
 abbrev pub place_read : {P D : Type 0} → Kind P D → List ℕ → ℕ → Option P
 place_read k bs v = k.read (drop (place_offset k.width v) bs)
 
--- a vertex of a sheet is its own parent; its place is what its bytes read as
+-- A vertex of a sheet is its own parent; its place is what its bytes read as, and the kind's origin where they are no place,
+-- which no sheet has that was opened.
 abbrev pub vertex_in : {P D : Type 0} → Kind P D → List ℕ → ℕ → Vertex P
 vertex_in k bs v = vertex_of (unwrap_or (place_read k bs v) k.origin) v
 
@@ -38,6 +39,7 @@ vertices_in k bs = count_unless (layout_fault k bs) (vertices_of bs)
 unfoldable pub triangles_in : {P D : Type 0} → Kind P D → List ℕ → ℕ
 triangles_in k bs = count_unless (layout_fault k bs) (triangles_of bs)
 
+-- the mesh that the bytes mean: its triangles and vertices in order, none of either where the layout is at fault
 abbrev pub sheet_mesh : {P D : Type 0} → Kind P D → List ℕ → Mesh P
 sheet_mesh k bs = mesh_of (map (triangle_in k.width bs) (range_with_len 0 (triangles_in k bs))) (map (vertex_in k bs) (range_with_len 0 (vertices_in k bs)))
 

@@ -6,7 +6,7 @@ use Rattle.mesh.specs.Lists.{Mem}
 use Rattle.mesh.specs.Triangles.{Tri, tri}
 use Rattle.mesh.specs.Closed.{Closed}
 use Rattle.mesh.specs.Limits.{counts_fault}
-use Rattle.mesh.specs.Meshes.{Mesh, Vertex, mesh_of, vertex_of, vertex_total, triangle_total}
+use Rattle.mesh.specs.Meshes.{Mesh, Vertex, InLimits, mesh_of, vertex_of, vertex_total, triangle_total}
 use Rattle.sheet.specs.Content.{sheet_mesh, sheet_fault, LaidOut}
 use Rattle.sheet.specs.Writing.{sheet_bytes}
 
@@ -49,14 +49,14 @@ pub record ReadsBack {P D : Type 0} (k : Kind P D) (m : Mesh P) : Type 0 where
   pub same_triangles : (sheet_mesh k (sheet_bytes k m)).triangles ≡ m.triangles
   pub same_places : places (sheet_mesh k (sheet_bytes k m)) ≡ places m
 
--- What was written reads back, if the counts are in their limits.
+-- What was written reads back, if the counts are in their limits, as those of a closed mesh are.
 abbrev pub BackIf : {P D : Type 0} → Result ℕ Fault → Kind P D → Mesh P → Type 0
-BackIf (Ok n) k m = counts_fault (vertex_total m) (triangle_total m) ≡ None → ReadsBack k m
+BackIf (Ok n) k m = (counts_fault (vertex_total m) (triangle_total m) ≡ None → ReadsBack k m) × (Closed (vertex_total m) m.triangles → ReadsBack k m)
 BackIf (Err f) k m = Unit {0}
 
--- What is written reads back, and different meshes have different sheets.
+-- What is written reads back, and different meshes with counts in their limits have different sheets.
 pub record SheetsReadBack {P D : Type 0} (k : Kind P D) : Type 0 where
   pub read_back : (m : Mesh P) → Writable k m → ReadsBack k m
-  -- a closed mesh has no other corners: each is below V
-  pub closed : (m : Mesh P) → counts_fault (vertex_total m) (triangle_total m) ≡ None → Held k m.vertices → Closed (vertex_total m) m.triangles → ReadsBack k m
+  -- a closed mesh no larger than a mesh may be has such counts, and its corners are below V
+  pub closed : (m : Mesh P) → InLimits m → Held k m.vertices → Closed (vertex_total m) m.triangles → ReadsBack k m
   pub apart : (m n : Mesh P) → Writable k m → Writable k n → sheet_bytes k m ≡ sheet_bytes k n → (places m ≡ places n) × (m.triangles ≡ n.triangles)

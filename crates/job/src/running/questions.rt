@@ -6,6 +6,7 @@ ghost use Rattle.mesh.specs.Triangles.{tri_of};
 ghost use Rattle.mesh.specs.Sides.{side_of};
 ghost use Rattle.mesh.specs.Meshes.{vertex_total, triangle_total, place_at, parent_at};
 ghost use Rattle.survey.specs.Survey.{surveyed};
+ghost use Rattle.sheet.specs.ReadBack.{BackIf};
 ghost use Rattle.sheet.specs.Writing.{sheet_written, sheet_after};
 ghost use Rattle.runs.specs.Calls.{ancestor};
 
@@ -69,6 +70,7 @@ impl Running {
     ) -> Result<usize, Fault>
         ensures answer { result ≡ sheet_written P.Place.kind (S.ReadingSurface.mesh store.now) out.old }
         ensures written { out.new ≡ sheet_after P.Place.kind (S.ReadingSurface.mesh store.now) out.old }
+        ensures back { BackIf result P.Place.kind (S.ReadingSurface.mesh store.now) }
     {
         sheet::write_sheet(store, out)
     }

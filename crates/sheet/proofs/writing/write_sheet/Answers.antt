@@ -1,7 +1,9 @@
-use Rattle.std.proofs.Common.{ℕ, ◌+◌, ◌*◌, ◌≤◌, List, length, ap, ◌∙◌, arith}
+use Rattle.std.proofs.Common.{◌≡◌, ℕ, ◌+◌, ◌*◌, ◌≤◌, List, length, None, ap, ◌∙◌, arith}
+use Rattle.mesh.specs.Limits.{counts_fault}
+use Rattle.mesh.specs.Meshes.{vertex_total, triangle_total}
 use Rattle.sheet.specs.Writing.{written_size, put_at}
 use Rattle.sheet.proofs.Written.{size_is, short_none, answered, written, refused, unchanged}
-use Rattle.sheet.proofs.Back.{reads_back}
+use Rattle.sheet.proofs.Back.{reads_back, closed_counts}
 use Rattle.sheet.proofs.writing.write_sheet.Goals as goal
 
 pub returns-in-Some : goal.returns-in-Some
@@ -31,10 +33,12 @@ returns g c =
     let e = size_is k m size w V T c.sheet_size-size.ensures.value ws vs ts in
     let h = short_none size (length out) c.in_default.ensures in
     let room : written_size k m ≤ length out = omega arith in
+    let limits = g.S.ReadingSurface.limited c.args.surface.now in
+    let back = λ (e : counts_fault (vertex_total m) (triangle_total m) ≡ None). reads_back k law m (record { counts = e; held = c.write_places.ensures.held; numbered = c.write_triangles.ensures.numbered }) in
     let head = c.put.ensures ∙ ap (λ (bs : List ℕ). put_at 0 bs out) c.head_bytes.ensures in
     record {
       answer = answered k law m out room size e;
       written = written k law m out room c.behind_length-following.result c.kind_byte-kind.result V T (14 + V * w) c.put.new.out c.write_places.new.out c.write_triangles.new.out
           (c.behind_length-following.ensures ∙ e) c.kind_byte-kind.ensures vs ts (λ i. 14 + vs i * ws i) head c.write_places.ensures.after c.write_triangles.ensures.after;
-      back = λ e. reads_back k law m (record { counts = e; held = c.write_places.ensures.held; numbered = c.write_triangles.ensures.numbered });
+      back = (back, λ d. back (closed_counts m limits d));
     }
