@@ -1,5 +1,5 @@
 -- What a refusal tells: its number, its layer and its spot.
-use Rattle.std.specs.Prelude.{ℕ, Some, None, Option}
+use Rattle.std.specs.Prelude.{ℕ, Some, None, Option, Result, Ok, Err}
 use Rattle.fault.specs.declared.fault.Count.{Count}
 use Rattle.fault.specs.declared.fault.Count.TheVariants.{Vertices, Triangles}
 use Rattle.fault.specs.declared.fault.Fault.{Fault}
@@ -57,6 +57,11 @@ told (CodesOffTree tree) = tells 31 4 tree
 told (LoopTooShort tree) = tells 32 4 tree
 told (SideTwice triangle) = tells 33 4 triangle
 told (NoDisplacedPlace vertex) = tells 34 5 vertex
+
+-- nothing, unless there is a fault
+abbrev pub checked : Option Fault → Result Unit Fault
+checked None = Ok tt
+checked (Some f) = Err f
 
 -- the first of two checks that finds a fault
 abbrev pub or_else : Option Fault → Option Fault → Option Fault

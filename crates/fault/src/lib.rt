@@ -2,7 +2,8 @@
 #![tactic(auto)]
 
 mod fault;
+mod layer;
 mod told;
-mod words;
 
 pub use fault::{Count, Fault};
+pub use layer::Layer;

@@ -1,8 +1,10 @@
 // What a refusal tells: its number, its layer and its spot.
 ghost use Rattle.std.specs.Prelude.{◌≡◌};
 ghost use Rattle.fault.specs.Faults.{told};
+ghost use Rattle.fault.specs.Layers.{layer_number};
 
 use crate::fault::{Count, Fault};
+use crate::layer::Layer;
 
 impl Fault {
     // From 1 to 34.
@@ -47,20 +49,19 @@ impl Fault {
         }
     }
 
-    // 1 job, 2 bytes, 3 surface, 4 loop, 5 place.
-    pub fn layer(&self) -> u8
-        ensures { result ≡ (told self.now).layer }
+    pub fn layer(&self) -> Layer
+        ensures { layer_number result ≡ (told self.now).layer }
     {
         match self {
-            Fault::NoPlace(_) | Fault::NoDisplacedPlace(_) => 5,
-            Fault::CodesOffTree(_) | Fault::LoopTooShort(_) | Fault::SideTwice(_) => 4,
-            Fault::BadCorners(_)
-            | Fault::RepeatedSide(_)
-            | Fault::OpenSide(_)
-            | Fault::NoSingleRing(_)
-            | Fault::NoMark
-            | Fault::MarkClosesLoop(_)
-            | Fault::SingleEdgeTree(_) => 3,
+            Fault::ShortWorkTable
+            | Fault::StoreNotEmpty
+            | Fault::StoreNotClosed
+            | Fault::StoreNotOfJob
+            | Fault::VertexCapacity
+            | Fault::TriangleCapacity
+            | Fault::ValueTooLarge(_)
+            | Fault::PartLengths
+            | Fault::ShortBuffer(_) => Layer::Job,
             Fault::SheetLength
             | Fault::SheetVersion
             | Fault::SheetKind
@@ -73,8 +74,16 @@ impl Fault {
             | Fault::SpareMarkBit(_)
             | Fault::CodeCount
             | Fault::RecordSize
-            | Fault::SpareCodeBit(_) => 2,
-            _ => 1,
+            | Fault::SpareCodeBit(_) => Layer::Bytes,
+            Fault::BadCorners(_)
+            | Fault::RepeatedSide(_)
+            | Fault::OpenSide(_)
+            | Fault::NoSingleRing(_)
+            | Fault::NoMark
+            | Fault::MarkClosesLoop(_)
+            | Fault::SingleEdgeTree(_) => Layer::Surface,
+            Fault::CodesOffTree(_) | Fault::LoopTooShort(_) | Fault::SideTwice(_) => Layer::Loop,
+            Fault::NoPlace(_) | Fault::NoDisplacedPlace(_) => Layer::Place,
         }
     }
 
