@@ -21,6 +21,12 @@ pub record Kind (P D : Type 0) : Type 0 where
   -- the place displaced, none where it would be no place of the kind
   pub displaced : P → D → Option P
 
+-- A kind's constants are its byte and its widths.
+pub record Constant {P D : Type 0} (k : Kind P D) (byte width displacement_width : ℕ) : Type 0 where
+  pub byte_told : byte ≡ k.byte
+  pub width_told : width ≡ k.width
+  pub displacement_width_told : displacement_width ≡ k.displacement_width
+
 -- What every kind shows of itself.
 pub record Lawful {P D : Type 0} (k : Kind P D) : Type 0 where
   -- a place that is written reads back, whatever follows it

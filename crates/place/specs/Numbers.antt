@@ -1,5 +1,5 @@
 -- Numbers read back from their bytes, and from the front of a list alone.
-use Rattle.std.specs.Prelude.{◌≡◌, ℕ, ◌+◌, ◌*◌, ◌/◌, ◌%◌, ◌<◌, ◌≤◌, List, length, take, nat_lt, slice_index}
+use Rattle.std.specs.Prelude.{◌≡◌, ℕ, ◌+◌, ◌*◌, ◌/◌, ◌%◌, ◌<◌, ◌≤◌, List, length, take, nat_lt}
 use Rattle.std.proofs.Common.{sym, ap, ◌∙◌, arith, length-take, get_or-take}
 use Rattle.std.proofs.lemmas.Nat.{shr-shr, div-add-mod'}
 use Rattle.std.proofs.lemmas.Bool.Decides.{nat_tests}
@@ -23,19 +23,16 @@ word_back n h =
 pub front_length : (n : ℕ) (bs : List ℕ) → nat_lt (length (take n bs)) n ≡ nat_lt (length bs) n
 front_length n bs = rw length-take (grind (arith, nat_tests))
 
-byte_front : (n : ℕ) (bs : List ℕ) (i : ℕ) → i < n → slice_index (take n bs) i ≡ slice_index bs i
-byte_front n bs i h = get_or-take n bs i 0 h
-
 pub half_front : (n : ℕ) (bs : List ℕ) (i : ℕ) → i + 2 ≤ n → half (take n bs) i ≡ half bs i
 half_front n bs i h =
-    let a = byte_front n bs i (omega arith) in
-    let b = byte_front n bs (i + 1) (omega arith) in
+    let a = get_or-take n bs i 0 (omega arith) in
+    let b = get_or-take n bs (i + 1) 0 (omega arith) in
     λ j. a j * 256 + b j
 
 pub word_front : (n : ℕ) (bs : List ℕ) (i : ℕ) → i + 4 ≤ n → word (take n bs) i ≡ word bs i
 word_front n bs i h =
-    let a = byte_front n bs i (omega arith) in
-    let b = byte_front n bs (i + 1) (omega arith) in
-    let c = byte_front n bs (i + 2) (omega arith) in
-    let d = byte_front n bs (i + 3) (omega arith) in
+    let a = get_or-take n bs i 0 (omega arith) in
+    let b = get_or-take n bs (i + 1) 0 (omega arith) in
+    let c = get_or-take n bs (i + 2) 0 (omega arith) in
+    let d = get_or-take n bs (i + 3) 0 (omega arith) in
     λ j. a j * 16777216 + b j * 65536 + c j * 256 + d j

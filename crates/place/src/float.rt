@@ -1,15 +1,15 @@
 // Places of three finite numbers, and what is added to them.
-ghost use Rattle.std.specs.Prelude.{◌≡◌, ◌+◌, ◌≤◌, true, length, is_some};
+ghost use Rattle.std.specs.Prelude.{◌≡◌, refl, [], ◌∷◌, true, cond, length, nat_lt, None, Some, is_some};
 ghost use Rattle.place.specs.Finite.{three_finite, three_fit};
 ghost use Rattle.place.specs.Floats.{float_kind, float_place, float_at, three_bytes};
 ghost use Rattle.place.specs.FloatsLemmas.{float_lawful};
 
 use crate::float_place::FloatPlace;
 use crate::kind::Place;
-use crate::words::word_at;
+use crate::words::{three_words, word_at};
 use std::num::{f32_from_bits_with_nan, f32_to_bits_with_nan};
 
-// Any three numbers, infinities and NaN among them.
+// Any three numbers, infinities and NaN among them; a place has only finite ones.
 #[derive(Clone, Copy)]
 pub struct FloatDisplacement {
     pub x: f32,
@@ -17,7 +17,7 @@ pub struct FloatDisplacement {
     pub z: f32,
 }
 
-// Whether none is infinite or a NaN.
+// Whether none is infinite or a NaN. Coordinates go one by one, since three of them are no place yet.
 fn all_finite(x: f32, y: f32, z: f32) -> bool
     ensures { result ≡ three_finite x y z }
 {
@@ -25,7 +25,8 @@ fn all_finite(x: f32, y: f32, z: f32) -> bool
 }
 
 impl FloatPlace {
-    // The place of three numbers, none where one is infinite or a NaN.
+    // The place of three numbers, none where one is infinite or a NaN. The test comes first: a place that is made holds
+    // finite numbers only.
     pub fn new(x: f32, y: f32, z: f32) -> Option<FloatPlace>
         ensures value { result ≡ float_place x y z }
         ensures exact { is_some result ≡ three_finite x y z }
@@ -40,10 +41,19 @@ impl FloatPlace {
 
 // The number that the four bytes from `i` on stand for.
 fn float_at(from: &[u8], i: usize) -> f32
-    requires { i + 4 ≤ length from.now }
     ensures { result ≡ float_at from.now i }
 {
     f32_from_bits_with_nan(word_at(from, i))
+}
+
+// The three numbers in the first twelve bytes.
+fn three_floats(from: &[u8]) -> Option<[f32; 3]>
+    ensures { result ≡ cond (nat_lt (length from.now) 12) None (Some (float_at from.now 0 ∷ float_at from.now 4 ∷ float_at from.now 8 ∷ [])) }
+{
+    if from.len() < FloatPlace::WIDTH {
+        return None;
+    }
+    Some([float_at(from, 0), float_at(from, 4), float_at(from, 8)])
 }
 
 // The bytes of three numbers, one after another.
@@ -51,10 +61,11 @@ fn three_bytes(x: f32, y: f32, z: f32) -> [u8; 12]
     ensures value { result ≡ three_bytes x y z }
     ensures held { three_fit x y z ≡ true }
 {
-    let [a, b, c, d] = f32_to_bits_with_nan(x).to_be_bytes();
-    let [e, f, g, h] = f32_to_bits_with_nan(y).to_be_bytes();
-    let [i, j, k, l] = f32_to_bits_with_nan(z).to_be_bytes();
-    [a, b, c, d, e, f, g, h, i, j, k, l]
+    three_words(
+        f32_to_bits_with_nan(x),
+        f32_to_bits_with_nan(y),
+        f32_to_bits_with_nan(z),
+    )
 }
 
 impl Place for FloatPlace {
@@ -66,21 +77,17 @@ impl Place for FloatPlace {
 
     const DISPLACEMENT_WIDTH: usize = 12;
 
+    ghost KIND = { 2 };
+
+    ghost WIDTH = { 12 };
+
+    ghost DISPLACEMENT_WIDTH = { 12 };
+
     ghost kind = { float_kind };
 
+    ghost constant = { record { byte_told = refl; width_told = refl; displacement_width_told = refl } };
+
     ghost lawful = { float_lawful };
-
-    fn kind_byte() -> u8 {
-        Self::KIND
-    }
-
-    fn width_of() -> usize {
-        Self::WIDTH
-    }
-
-    fn displacement_width_of() -> usize {
-        Self::DISPLACEMENT_WIDTH
-    }
 
     fn origin() -> FloatPlace {
         FloatPlace {
@@ -91,10 +98,8 @@ impl Place for FloatPlace {
     }
 
     fn read(from: &[u8]) -> Option<FloatPlace> {
-        if from.len() < Self::WIDTH {
-            return None;
-        }
-        FloatPlace::new(float_at(from, 0), float_at(from, 4), float_at(from, 8))
+        let [x, y, z] = three_floats(from)?;
+        FloatPlace::new(x, y, z)
     }
 
     fn to_bytes(&self) -> [u8; 12] {
@@ -102,14 +107,8 @@ impl Place for FloatPlace {
     }
 
     fn read_displacement(from: &[u8]) -> Option<FloatDisplacement> {
-        if from.len() < Self::DISPLACEMENT_WIDTH {
-            return None;
-        }
-        Some(FloatDisplacement {
-            x: float_at(from, 0),
-            y: float_at(from, 4),
-            z: float_at(from, 8),
-        })
+        let [x, y, z] = three_floats(from)?;
+        Some(FloatDisplacement { x, y, z })
     }
 
     fn displacement_to_bytes(by: &FloatDisplacement) -> [u8; 12] {

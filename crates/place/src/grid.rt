@@ -1,7 +1,8 @@
 // Places on a grid of 65,536 steps each way.
-ghost use Rattle.std.specs.Prelude.{◌≡◌, pos, ◌+ℤ◌};
+ghost use Rattle.std.specs.Prelude.{◌≡◌, refl, [], ◌∷◌, ◌++◌, cond, length, nat_lt, None, pos, replicate, Some, ◌+ℤ◌};
 ghost use Rattle.place.specs.Grids.{grid_kind, coordinate};
 ghost use Rattle.place.specs.GridsLemmas.{grid_lawful};
+ghost use Rattle.place.specs.Words.{half, half_bytes};
 
 use crate::kind::Place;
 use crate::words::half_at;
@@ -13,6 +14,7 @@ pub struct Grid {
     pub z: u16,
 }
 
+// Fields as of a place, but a type of its own, so that no displacement is taken for a place.
 #[derive(Clone, Copy)]
 pub struct GridDisplacement {
     pub x: i16,
@@ -24,12 +26,27 @@ pub struct GridDisplacement {
 fn displaced_coordinate(from: u16, by: i16) -> Option<u16>
     ensures { result ≡ coordinate (pos from +ℤ by) }
 {
-    let sum = i32::from(from) + i32::from(by);
-    if 0 <= sum && sum <= 65535 {
-        Some(sum as u16)
-    } else {
-        None
+    from.checked_add_signed(by)
+}
+
+// The three numbers in the first six bytes.
+fn three_halves(from: &[u8]) -> Option<[u16; 3]>
+    ensures { result ≡ cond (nat_lt (length from.now) 6) None (Some (half from.now 0 ∷ half from.now 2 ∷ half from.now 4 ∷ [])) }
+{
+    if from.len() < Grid::WIDTH {
+        return None;
     }
+    Some([half_at(from, 0), half_at(from, 2), half_at(from, 4)])
+}
+
+// The bytes of three numbers, and zeros behind them.
+fn six_bytes(x: u16, y: u16, z: u16) -> [u8; 12]
+    ensures { result ≡ half_bytes x ++ (half_bytes y ++ half_bytes z) ++ replicate 6 0 }
+{
+    let [a, b] = x.to_be_bytes();
+    let [c, d] = y.to_be_bytes();
+    let [e, f] = z.to_be_bytes();
+    [a, b, c, d, e, f, 0, 0, 0, 0, 0, 0]
 }
 
 impl Place for Grid {
@@ -41,62 +58,46 @@ impl Place for Grid {
 
     const DISPLACEMENT_WIDTH: usize = 6;
 
+    ghost KIND = { 1 };
+
+    ghost WIDTH = { 6 };
+
+    ghost DISPLACEMENT_WIDTH = { 6 };
+
     ghost kind = { grid_kind };
 
+    ghost constant = { record { byte_told = refl; width_told = refl; displacement_width_told = refl } };
+
     ghost lawful = { grid_lawful };
-
-    fn kind_byte() -> u8 {
-        Self::KIND
-    }
-
-    fn width_of() -> usize {
-        Self::WIDTH
-    }
-
-    fn displacement_width_of() -> usize {
-        Self::DISPLACEMENT_WIDTH
-    }
 
     fn origin() -> Grid {
         Grid { x: 0, y: 0, z: 0 }
     }
 
     fn read(from: &[u8]) -> Option<Grid> {
-        if from.len() < Self::WIDTH {
-            return None;
-        }
-        Some(Grid {
-            x: half_at(from, 0),
-            y: half_at(from, 2),
-            z: half_at(from, 4),
-        })
+        let [x, y, z] = three_halves(from)?;
+        Some(Grid { x, y, z })
     }
 
     fn to_bytes(&self) -> [u8; 12] {
-        let Grid { x, y, z } = *self;
-        let [a, b] = x.to_be_bytes();
-        let [c, d] = y.to_be_bytes();
-        let [e, f] = z.to_be_bytes();
-        [a, b, c, d, e, f, 0, 0, 0, 0, 0, 0]
+        six_bytes(self.x, self.y, self.z)
     }
 
     fn read_displacement(from: &[u8]) -> Option<GridDisplacement> {
-        if from.len() < Self::DISPLACEMENT_WIDTH {
-            return None;
-        }
+        let [x, y, z] = three_halves(from)?;
         Some(GridDisplacement {
-            x: half_at(from, 0).cast_signed(),
-            y: half_at(from, 2).cast_signed(),
-            z: half_at(from, 4).cast_signed(),
+            x: x.cast_signed(),
+            y: y.cast_signed(),
+            z: z.cast_signed(),
         })
     }
 
     fn displacement_to_bytes(by: &GridDisplacement) -> [u8; 12] {
-        let GridDisplacement { x, y, z } = *by;
-        let [a, b] = x.to_be_bytes();
-        let [c, d] = y.to_be_bytes();
-        let [e, f] = z.to_be_bytes();
-        [a, b, c, d, e, f, 0, 0, 0, 0, 0, 0]
+        six_bytes(
+            by.x.cast_unsigned(),
+            by.y.cast_unsigned(),
+            by.z.cast_unsigned(),
+        )
     }
 
     fn displaced(&self, by: &GridDisplacement) -> Option<Grid> {

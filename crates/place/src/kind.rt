@@ -1,6 +1,7 @@
-// What a kind of place is to the engine, which has one text for all kinds.
-ghost use Rattle.std.specs.Prelude.{◌≡◌, ◌-◌, true, ◌++◌, replicate};
-ghost use Rattle.place.specs.Kinds.{Kind, Lawful};
+// What a kind of place is to the engine, which has one text for all kinds. Places and displacements are read and written
+// by calls of their own: one trait for both would stand twice in every bound, with no fact less.
+ghost use Rattle.std.specs.Prelude.{◌≡◌, ℕ, ◌-◌, true, ◌++◌, replicate};
+ghost use Rattle.place.specs.Kinds.{Kind, Constant, Lawful};
 
 pub trait Place: Copy {
     type Displacement: Copy;
@@ -11,17 +12,14 @@ pub trait Place: Copy {
 
     const DISPLACEMENT_WIDTH: usize;
 
+    // The constants' values.
+    ghost KIND: { ℕ };
+
+    ghost WIDTH: { ℕ };
+
+    ghost DISPLACEMENT_WIDTH: { ℕ };
+
     ghost kind: { Kind Self Self.Displacement };
-
-    // The constants again, with what they are in a contract: generic code cannot see a constant's value.
-    fn kind_byte() -> u8
-        ensures { result ≡ kind.byte };
-
-    fn width_of() -> usize
-        ensures { result ≡ kind.width };
-
-    fn displacement_width_of() -> usize
-        ensures { result ≡ kind.displacement_width };
 
     fn origin() -> Self
         ensures { result ≡ kind.origin };
@@ -44,6 +42,9 @@ pub trait Place: Copy {
 
     fn displaced(&self, by: &Self::Displacement) -> Option<Self>
         ensures { result ≡ kind.displaced self.now by.now };
+
+    // The constants are what the kind tells.
+    ghost constant: { Constant kind KIND WIDTH DISPLACEMENT_WIDTH };
 
     ghost lawful: { Lawful kind };
 }

@@ -13,3 +13,4 @@ pub use float_place::FloatPlace;
 pub use grid::{Grid, GridDisplacement};
 pub use kind::Place;
 pub use sums::{float_refusals, float_sums, grid_sums};
+pub use words::{byte_at, rest_of, three_words, word_at};

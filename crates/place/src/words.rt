@@ -1,19 +1,47 @@
-// Big-endian numbers in a list of bytes.
-ghost use Rattle.std.specs.Prelude.{◌≡◌, ◌+◌, ◌≤◌, length};
-ghost use Rattle.place.specs.Words.{half, word};
+// Big-endian numbers in a list of bytes; past the list's end there are zeros. A list and an offset stay two parameters, as
+// in `get`: an offset belongs to no list.
+ghost use Rattle.std.specs.Prelude.{◌≡◌, ◌++◌, slice_index, drop};
+ghost use Rattle.place.specs.Words.{half, word, word_bytes};
+
+// The byte at `i`.
+pub fn byte_at(bytes: &[u8], i: usize) -> u8
+    ensures { result ≡ slice_index bytes.now i }
+{
+    bytes.get(i).copied().unwrap_or(0)
+}
+
+// The bytes from `i` on.
+pub fn rest_of(bytes: &[u8], i: usize) -> &[u8]
+    ensures { result.now ≡ drop i bytes.now }
+{
+    bytes.get(i..).unwrap_or(&[])
+}
 
 // The number that the two bytes from `i` on stand for.
-pub(crate) fn half_at(from: &[u8], i: usize) -> u16
-    requires { i + 2 ≤ length from.now }
-    ensures { result ≡ half from.now i }
+pub(crate) fn half_at(bytes: &[u8], i: usize) -> u16
+    ensures { result ≡ half bytes.now i }
 {
-    u16::from_be_bytes([from[i], from[i + 1]])
+    let rest = rest_of(bytes, i);
+    u16::from_be_bytes([byte_at(rest, 0), byte_at(rest, 1)])
 }
 
 // The number that the four bytes from `i` on stand for.
-pub(crate) fn word_at(from: &[u8], i: usize) -> u32
-    requires { i + 4 ≤ length from.now }
-    ensures { result ≡ word from.now i }
+pub fn word_at(bytes: &[u8], i: usize) -> u32
+    ensures { result ≡ word bytes.now i }
 {
-    u32::from_be_bytes([from[i], from[i + 1], from[i + 2], from[i + 3]])
+    let rest = rest_of(bytes, i);
+    match rest.first_chunk() {
+        Some(four) => u32::from_be_bytes(*four),
+        None => u32::from_be_bytes([byte_at(rest, 0), byte_at(rest, 1), byte_at(rest, 2), 0]),
+    }
+}
+
+// The bytes of three numbers, one after another.
+pub fn three_words(x: u32, y: u32, z: u32) -> [u8; 12]
+    ensures { result ≡ word_bytes x ++ (word_bytes y ++ word_bytes z) }
+{
+    let [a, b, c, d] = x.to_be_bytes();
+    let [e, f, g, h] = y.to_be_bytes();
+    let [i, j, k, l] = z.to_be_bytes();
+    [a, b, c, d, e, f, g, h, i, j, k, l]
 }
