@@ -1,43 +1,35 @@
--- One turn of the search for a side over a list of triangles.
-use Rattle.std.proofs.Common.{◌≡◌, ℕ, zero, suc, ◌+◌, ◌<◌, ◌≤◌, true, false, List, [], ◌∷◌, map, length, drop, is_some, Some, None, Option, sym, refl, ap, ◌∙◌, arith}
+-- The search for a side over a list of triangles.
+use Rattle.std.proofs.Common.{◌≡◌, ℕ, zero, suc, ◌+◌, ◌<◌, Bool, cond, List, [], ◌∷◌, map, drop, is_some, Some, None, Option, sym, refl, ap, ◌∙◌, arith}
 use Rattle.std.specs.List.{range_with_len, slice_get}
 use Rattle.std.specs.Option.{option_map}
-use Rattle.std.proofs.lemmas.Option.{slice_get-get_or}
+use Rattle.std.proofs.lemmas.Option.{slice_get-get_or, slice_get_within}
 use Rattle.std.proofs.lemmas.List.{drop_more, at_drop_all}
 use Rattle.mesh.specs.Triangles.{Tri}
 use Rattle.mesh.specs.Sides.{corner_of, Lies, lies_here, side_from, LiesFirst, SidesFound}
-use Rattle.mesh.proofs.Tests.{nth_below, some_inj, none_some}
+use Rattle.mesh.specs.Searches.{first_in}
+use Rattle.mesh.proofs.Tests.{some_inj, none_some}
 use Rattle.mesh.proofs.Links.{first_from}
+use Rattle.std.proofs.lemmas.List.FromFn.{length-map-range_with_len}
 use Rattle.mesh.proofs.Indexed.{counted_there}
-use borrow.Author.Tests.{clash}
 
 -- the item at i stands in front of what follows it
-pub front : {X : Type 0} (xs : List X) (i : ℕ) (x : X) → slice_get xs i ≡ Some x → drop i xs ≡ x ∷ drop (i + 1) xs
-front xs i x e = let h = nth_below xs i x e in let a = slice_get-get_or xs i x h in let b = drop_more xs i x h in cc
+front : {X : Type 0} (xs : List X) (i : ℕ) (x : X) → slice_get xs i ≡ Some x → drop i xs ≡ x ∷ drop (i + 1) xs
+front xs i x e = let h = slice_get_within xs i x e in let a = slice_get-get_or xs i x h in let b = drop_more xs i x h in cc
 
-pub side_more : (u v : ℕ) (ts : List Tri) (i : ℕ) (t : Tri) → slice_get ts i ≡ Some t → is_some (corner_of u v t) ≡ false → first_from u v i (drop i ts) ≡ first_from u v (i + 1) (drop (i + 1) ts)
-side_more u v ts i t e b = ap (first_from u v i) (front ts i t e) ∙ go (corner_of u v t) b
+-- the search over triangles made by a function of their numbers is a search over the numbers
+pub side_first : (u v n : ℕ) (f : ℕ → Tri) (i m : ℕ) → i + m ≡ n → first_from u v i (drop i (map f (range_with_len 0 n))) ≡ first_in (λ j. is_some (corner_of u v (f j))) i m
+side_first u v n f i zero e = at_drop_all (first_from u v i) (map f (range_with_len 0 n)) i (omega (arith, length-map-range_with_len f 0 n))
+side_first u v n f i (suc m) e =
+    ap (first_from u v i) (front (map f (range_with_len 0 n)) i (f i) (counted_there f n i (omega arith)))
+    ∙ go (corner_of u v (f i)) (side_first u v n f (i + 1) m (omega arith))
   where
-    go : (o : Option ℕ) → is_some o ≡ false → option_map (λ l. l.triangle) (lies_here i o (side_from u v (i + 1) (drop (i + 1) ts))) ≡ first_from u v (i + 1) (drop (i + 1) ts)
-    go None b = refl
-    go (Some k) b = absurd (clash (sym b))
+    p : ℕ → Bool
+    p j = is_some (corner_of u v (f j))
 
-pub side_here : (u v : ℕ) (ts : List Tri) (i : ℕ) (t : Tri) → slice_get ts i ≡ Some t → is_some (corner_of u v t) ≡ true → first_from u v i (drop i ts) ≡ Some i
-side_here u v ts i t e b = ap (first_from u v i) (front ts i t e) ∙ go (corner_of u v t) b
-  where
-    go : (o : Option ℕ) → is_some o ≡ true → option_map (λ l. l.triangle) (lies_here i o (side_from u v (i + 1) (drop (i + 1) ts))) ≡ Some i
-    go None b = absurd (clash b)
-    go (Some k) b = refl
-
-pub side_all : (u v : ℕ) (ts : List Tri) (i : ℕ) → length ts ≤ i → first_from u v i (drop i ts) ≡ None
-side_all u v ts i h = at_drop_all (first_from u v i) ts i h
-
--- the same where triangle i is made by a function of i
-pub side_counted_more : (u v n : ℕ) (f : ℕ → Tri) (i : ℕ) → i < n → is_some (corner_of u v (f i)) ≡ false → first_from u v i (drop i (map f (range_with_len 0 n))) ≡ first_from u v (i + 1) (drop (i + 1) (map f (range_with_len 0 n)))
-side_counted_more u v n f i h b = side_more u v (map f (range_with_len 0 n)) i (f i) (counted_there f n i h) b
-
-pub side_counted_here : (u v n : ℕ) (f : ℕ → Tri) (i : ℕ) → i < n → is_some (corner_of u v (f i)) ≡ true → first_from u v i (drop i (map f (range_with_len 0 n))) ≡ Some i
-side_counted_here u v n f i h b = side_here u v (map f (range_with_len 0 n)) i (f i) (counted_there f n i h) b
+    go : (o : Option ℕ) → first_from u v (i + 1) (drop (i + 1) (map f (range_with_len 0 n))) ≡ first_in p (i + 1) m
+        → option_map (λ l. l.triangle) (lies_here i o (side_from u v (i + 1) (drop (i + 1) (map f (range_with_len 0 n))))) ≡ cond (is_some o) (Some i) (first_in p (i + 1) m)
+    go None r = r
+    go (Some k) r = refl
 
 -- where the search over a list whose first triangle is number i finds the side
 record FirstFrom (u v i : ℕ) (ts : List Tri) (l : Lies) : Type 0 where

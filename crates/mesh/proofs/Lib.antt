@@ -10,3 +10,4 @@ pub mod Rise
 pub mod Counting
 pub mod Following
 pub mod Changing
+pub mod Passing

@@ -3,11 +3,12 @@ use Rattle.std.proofs.Common.{◌≡◌, ℕ, zero, suc, ◌+◌, ◌≤◌, Boo
 use borrow.Author.Tests.{clash}
 use Rattle.std.specs.Option.{option_map}
 use Rattle.std.specs.List.{slice_get}
+use Rattle.std.proofs.lemmas.Bool.{and_parts, and_from}
 use Rattle.mesh.specs.Lists.{Mem, now, later, Apart, one_more}
 use Rattle.mesh.specs.Triangles.{Tri, tri}
 use Rattle.mesh.specs.Sides.{Side, side, sides, corner_of, lies_here, side_from, side_of}
 use Rattle.mesh.specs.Rings.{Corner, at_first, at_second, at_third, Link, here, there}
-use Rattle.mesh.proofs.Tests.{and_true, true_and, some_inj, none_some}
+use Rattle.mesh.proofs.Tests.{some_inj, none_some}
 
 -- a corner, by equations
 abbrev pub Turned : ℕ → ℕ → ℕ → ℕ → ℕ → ℕ → Type 0
@@ -98,16 +99,16 @@ corner_there u v k (tri a b c) e = go (eqb a u && eqb b v) refl (eqb b u && eqb 
   where
     go : (p : Bool) → (eqb a u && eqb b v) ≡ p → (q : Bool) → (eqb b u && eqb c v) ≡ q → (r : Bool) → (eqb c u && eqb a v) ≡ r
         → cond p (Some 0) (cond q (Some 1) (cond r (Some 2) None)) ≡ Some k → (y : ℕ) × Corner (tri a b c) u v y
-    go true i q j r l e = let h = and_true (eqb a u) (eqb b v) i in (c, corner_is (eqb-true a u h.0) (eqb-true b v h.1) refl at_first)
-    go false i true j r l e = let h = and_true (eqb b u) (eqb c v) j in (a, corner_is (eqb-true b u h.0) (eqb-true c v h.1) refl at_second)
-    go false i false j true l e = let h = and_true (eqb c u) (eqb a v) l in (b, corner_is (eqb-true c u h.0) (eqb-true a v h.1) refl at_third)
+    go true i q j r l e = let h = and_parts (eqb a u) (eqb b v) i in (c, corner_is (eqb-true a u h.0) (eqb-true b v h.1) refl at_first)
+    go false i true j r l e = let h = and_parts (eqb b u) (eqb c v) j in (a, corner_is (eqb-true b u h.0) (eqb-true c v h.1) refl at_second)
+    go false i false j true l e = let h = and_parts (eqb c u) (eqb a v) l in (b, corner_is (eqb-true c u h.0) (eqb-true a v h.1) refl at_third)
     go false i false j false l e = none_some e
 
 pub there_corner : {u v y : ℕ} (t : Tri) → Corner t u v y → (k : ℕ) × (corner_of u v t ≡ Some k)
 there_corner {u} {v} {y} (tri a b c) d = go (eqb a u && eqb b v) refl (eqb b u && eqb c v) refl (eqb c u && eqb a v) refl (turned d)
   where
     two : (p q : ℕ) → u ≡ p → v ≡ q → (eqb p u && eqb q v) ≡ true
-    two p q e i = true_and (eqb p u) (eqb q v) (eq-eqb p u (sym e)) (eq-eqb q v (sym i))
+    two p q e i = and_from (eqb p u) (eqb q v) (eq-eqb p u (sym e)) (eq-eqb q v (sym i))
 
     go : (p : Bool) → (eqb a u && eqb b v) ≡ p → (q : Bool) → (eqb b u && eqb c v) ≡ q → (r : Bool) → (eqb c u && eqb a v) ≡ r
         → Turned a b c u v y → (k : ℕ) × (cond p (Some 0) (cond q (Some 1) (cond r (Some 2) None)) ≡ Some k)

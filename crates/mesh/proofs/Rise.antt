@@ -1,32 +1,28 @@
 -- Sides in rising order.
 use Rattle.std.proofs.Common.{◌≡◌, ℕ, ◌<◌, Bool, true, false, cond, ◌&&◌, eqb, ltb, ◌⊎◌, List, [], ◌∷◌, map, filter, sym, refl, ap, ◌∙◌, inl, inr, ⊎_elim, arith, ltb-false, ltb-true, lt-ltb, eq-eqb, eqb-true}
 use borrow.Author.Tests.{clash}
+use Rattle.std.proofs.lemmas.Bool.{and_parts, or_cases, or_parts, and_from}
 use Rattle.mesh.specs.Lists.{Mem, now, later, Apart, no_one, one_more}
 use Rattle.mesh.specs.Triangles.{Tri}
 use Rattle.mesh.specs.Sides.{Side, side, back, sides}
 use Rattle.mesh.specs.Edges.{up, before, insert, rising, two_way, edges, Lower, Ascending, EdgesListed}
-use Rattle.mesh.proofs.Tests.{and_true, or_true, or_false}
 use Rattle.mesh.proofs.Members.{mem_cases, kept_mem, mem_kept, mem_left, mem_right, mem_split, mem_eq, mem_map, map_mem}
 
 before_lower : (s t : Side) → before s t ≡ true → Lower s t
 before_lower (side i j) (side k l) e =
-    ⊎_elim (λ h. inl (ltb-true i k h)) (λ h. let a = and_true (eqb i k) (ltb j l) h in inr (eqb-true i k a.0, ltb-true j l a.1)) (or_true (ltb i k) (eqb i k && ltb j l) e)
-
-and_is : (b : Bool) → b ≡ true → (b && true) ≡ true
-and_is true i = refl
-and_is false i = i
+    ⊎_elim (λ h. inl (ltb-true i k h)) (λ h. let a = and_parts (eqb i k) (ltb j l) h in inr (eqb-true i k a.0, ltb-true j l a.1)) (or_cases (ltb i k) (eqb i k && ltb j l) e)
 
 neither_same : (s t : Side) → before s t ≡ false → before t s ≡ false → s ≡ t
 neither_same (side i j) (side k l) e f =
-    let a = or_false (ltb i k) (eqb i k && ltb j l) e in
-    let b = or_false (ltb k i) (eqb k i && ltb l j) f in
+    let a = or_parts (ltb i k) (eqb i k && ltb j l) e in
+    let b = or_parts (ltb k i) (eqb k i && ltb l j) f in
     let p = ltb-false i k a.0 in
     let q = ltb-false k i b.0 in
     let same : i ≡ k = omega arith in go (ltb j l) refl (ltb l j) refl a.1 b.1 same
   where
     go : (x : Bool) → ltb j l ≡ x → (y : Bool) → ltb l j ≡ y → (eqb i k && x) ≡ false → (eqb k i && y) ≡ false → i ≡ k → side i j ≡ side k l
-    go true p y q a b e = absurd (clash (sym a ∙ and_is (eqb i k) (eq-eqb i k e)))
-    go false p true q a b e = absurd (clash (sym b ∙ and_is (eqb k i) (eq-eqb k i (sym e))))
+    go true p y q a b e = absurd (clash (sym a ∙ and_from (eqb i k) true (eq-eqb i k e) refl))
+    go false p true q a b e = absurd (clash (sym b ∙ and_from (eqb k i) true (eq-eqb k i (sym e)) refl))
     go false p false q a b e = let h = ltb-false j l p in let g = ltb-false l j q in let d : j ≡ l = omega arith in cc
 
 lower_trans : (r s t : Side) → Lower r s → Lower s t → Lower r t

@@ -9,3 +9,4 @@ pub mod Limits
 pub mod Follow
 pub mod Searches
 pub mod Growth
+pub mod Passes

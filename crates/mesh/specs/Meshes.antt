@@ -32,6 +32,10 @@ place_at m v = option_map (λ x. x.place) (slice_get m.vertices v)
 abbrev pub parent_at : {P : Type 0} → Mesh P → ℕ → Option ℕ
 parent_at m v = option_map (λ x. x.parent) (slice_get m.vertices v)
 
+-- the places of the vertices, in order, and their parents
+abbrev pub places : {P : Type 0} → Mesh P → List P
+places m = map (λ x. x.place) m.vertices
+
 abbrev pub parents : {P : Type 0} → Mesh P → List ℕ
 parents m = map (λ x. x.parent) m.vertices
 

@@ -4,11 +4,13 @@ ghost use Rattle.mesh.specs.Triangles.{tri_of};
 ghost use Rattle.mesh.specs.Growth.{RoomInLimits, SameRoom, may_add_vertex, add_vertex, may_add_triangle, add_triangle};
 ghost use Rattle.mesh.specs.Growth.{may_replace_corner, replace_corner, may_replace_place, replace_place};
 
+use crate::limits::Room;
 use crate::surface::ReadingSurface;
 use crate::triangle::Triangle;
 
 // A surface with a fixed room for vertices and triangles. Each call that changes it says yes and
-// does exactly what it is named for, or says no and leaves the mesh as it was.
+// does exactly what it is named for, or says no and leaves the mesh as it was. That the room stays
+// is said of each call: it compares two states, and a type's facts are of one.
 pub trait GrowingStore: ReadingSurface {
     ghost vertex_room: { Self → ℕ };
 
@@ -16,11 +18,9 @@ pub trait GrowingStore: ReadingSurface {
 
     ghost room_limited: { (s : Self) → RoomInLimits (vertex_room s) (triangle_room s) };
 
-    fn vertex_capacity(&self) -> u32
-        ensures { result ≡ vertex_room self.now };
-
-    fn triangle_capacity(&self) -> u32
-        ensures { result ≡ triangle_room self.now };
+    fn room(&self) -> Room
+        ensures vertices { result.vertices ≡ vertex_room self.now }
+        ensures triangles { result.triangles ≡ triangle_room self.now };
 
     // The vertex goes last. Its parent may be itself, by the number that it will have.
     fn add_vertex(&mut self, place: Self::Kind, parent: u32) -> bool
@@ -34,7 +34,8 @@ pub trait GrowingStore: ReadingSurface {
         ensures after { Self.mesh self.new ≡ (if result then add_triangle (Self.mesh self.old) (tri_of t) else Self.mesh self.old) }
         ensures room { SameRoom vertex_room triangle_room self.old self.new };
 
-    // Corner 0, 1 or 2 of triangle t becomes v; yes also where it is v already.
+    // Corner 0, 1 or 2 of triangle t becomes v; yes also where it is v already. Corners go by number, since the call
+    // says no to a number that is no corner's.
     fn replace_corner(&mut self, t: u32, corner: u8, v: u32) -> bool
         ensures answer { result ≡ may_replace_corner (Self.mesh self.old) t corner v }
         ensures after { Self.mesh self.new ≡ (if result then replace_corner (Self.mesh self.old) t corner v else Self.mesh self.old) }

@@ -1,5 +1,6 @@
 // The limits of a mesh's counts.
 ghost use Rattle.std.specs.Prelude.{◌≡◌};
+ghost use Rattle.fault.specs.Faults.{checked};
 ghost use Rattle.mesh.specs.Limits.{counts_fault};
 
 use fault::{Count, Fault};
@@ -12,15 +13,22 @@ pub const MIN_TRIANGLES: u32 = 2;
 
 pub const MAX_TRIANGLES: u32 = 32_768;
 
-// The first of the two counts that is out of its limits.
-pub fn count_fault(vertices: u32, triangles: u32) -> Option<Fault>
-    ensures { result ≡ counts_fault vertices triangles }
+// How many vertices and triangles there may be.
+#[derive(Clone, Copy, PartialEq, Eq, Debug)]
+pub struct Room {
+    pub vertices: u32,
+    pub triangles: u32,
+}
+
+// Refuses the first of the two counts that is out of its limits.
+pub fn check_counts(vertices: u32, triangles: u32) -> Result<(), Fault>
+    ensures { result ≡ checked (counts_fault vertices triangles) }
 {
-    if vertices < MIN_VERTICES || vertices > MAX_VERTICES {
-        return Some(Fault::SheetCounts(Count::Vertices));
+    if !(MIN_VERTICES..=MAX_VERTICES).contains(&vertices) {
+        return Err(Fault::SheetCounts(Count::Vertices));
     }
-    if triangles < MIN_TRIANGLES || triangles > MAX_TRIANGLES {
-        return Some(Fault::SheetCounts(Count::Triangles));
+    if !(MIN_TRIANGLES..=MAX_TRIANGLES).contains(&triangles) {
+        return Err(Fault::SheetCounts(Count::Triangles));
     }
-    None
+    Ok(())
 }

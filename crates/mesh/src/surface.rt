@@ -4,8 +4,10 @@ ghost use Rattle.std.specs.Option.{option_map};
 ghost use Rattle.std.specs.List.{slice_get};
 ghost use Rattle.mesh.specs.Triangles.{tri_of};
 ghost use Rattle.mesh.specs.Sides.{side_of};
-ghost use Rattle.mesh.specs.Meshes.{Mesh, InLimits, vertex_total, triangle_total, place_at, parent_at};
+ghost use Rattle.mesh.specs.Meshes.{Mesh, InLimits, vertex_total, triangle_total, places, place_at, parent_at};
+ghost use Rattle.mesh.specs.Passes.{triangles_left, places_left};
 
+use crate::passes::{Places, Triangles};
 use crate::triangle::Triangle;
 use place::Place;
 
@@ -35,4 +37,18 @@ pub trait ReadingSurface {
     // The lowest triangle with the side u→v.
     fn side(&self, u: u32, v: u32) -> Option<u32>
         ensures { result ≡ side_of (mesh self.now).triangles u v };
+
+    // The triangles one after another, from the first on.
+    final fn triangles(&self) -> Triangles<'_, Self>
+        ensures { triangles_left mesh result ≡ (mesh self.now).triangles }
+    {
+        Triangles::new(self)
+    }
+
+    // The places of the vertices one after another, from the first on.
+    final fn places(&self) -> Places<'_, Self>
+        ensures { places_left mesh result ≡ places (mesh self.now) }
+    {
+        Places::new(self)
+    }
 }

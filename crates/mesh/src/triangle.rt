@@ -1,6 +1,7 @@
 // Triangles and their sides.
 ghost use Rattle.std.specs.Prelude.{◌≡◌};
 ghost use Rattle.mesh.specs.Triangles.{tri_of};
+ghost use Rattle.mesh.specs.Growth.{all_below, different, with_corner};
 ghost use Rattle.mesh.specs.Sides.{corner_of};
 
 // Three vertex numbers in order; (a, b, c) has the directed sides a→b, b→c and c→a.
@@ -13,7 +14,8 @@ pub struct Triangle {
 }
 
 impl Triangle {
-    // The corner, 0, 1 or 2, that begins the side u→v; the lowest if several do.
+    // The corner, 0, 1 or 2, that begins the side u→v; the lowest if several do. Three comparisons say it as plainly as
+    // a search through a list of three sides.
     pub fn side_corner(&self, u: u32, v: u32) -> Option<u8>
         ensures { result ≡ corner_of u v (tri_of self.now) }
     {
@@ -25,6 +27,30 @@ impl Triangle {
             Some(2)
         } else {
             None
+        }
+    }
+
+    // Whether the three corners are vertices below `n`.
+    pub fn is_below(&self, n: u32) -> bool
+        ensures { result ≡ all_below n (tri_of self.now) }
+    {
+        self.a < n && self.b < n && self.c < n
+    }
+
+    pub fn has_different_corners(&self) -> bool
+        ensures { result ≡ different (tri_of self.now) }
+    {
+        self.a != self.b && self.b != self.c && self.c != self.a
+    }
+
+    // The triangle with v for its corner k, or for its last where it has no corner k.
+    pub fn with_corner(self, k: u8, v: u32) -> Triangle
+        ensures { tri_of result ≡ with_corner k v (tri_of self) }
+    {
+        match k {
+            0 => Triangle { a: v, ..self },
+            1 => Triangle { b: v, ..self },
+            _ => Triangle { c: v, ..self },
         }
     }
 }
