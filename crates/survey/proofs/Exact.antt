@@ -1,5 +1,5 @@
 -- The survey finds no fault exactly if the mesh is closed and within the limits.
-use Rattle.std.proofs.Common.{◌≡◌, ℕ, zero, suc, ◌*◌, ◌<◌, ◌≤◌, true, false, not, ◌||◌, List, [], ◌∷◌, length, is_some, Some, None, Ok, Option, Result, sym, refl, ap, ◌∙◌, subst, inl, inr, ⊎_elim, arith, ltb-true, lt-ltb}
+use Rattle.std.proofs.Common.{◌≡◌, ℕ, zero, suc, ◌*◌, ◌<◌, ◌≤◌, true, false, not, List, [], ◌∷◌, length, is_some, Some, None, Ok, Option, sym, refl, ap, ◌∙◌, subst, inl, inr, ⊎_elim, arith, ltb-true, lt-ltb, tests}
 use borrow.Author.Tests.{not-false, clash}
 use Rattle.std.specs.Option.{option_map}
 use Rattle.std.specs.List.{slice_get}
@@ -12,7 +12,7 @@ use Rattle.mesh.specs.Sides.{Side, side, back, sides, side_of}
 use Rattle.mesh.specs.Rings.{Corner, at_first, at_second, at_third}
 use Rattle.mesh.specs.Closed.{Closed}
 use Rattle.mesh.specs.Limits.{counts_fault}
-use Rattle.mesh.proofs.Tests.{is_false, or_false, or_left, or_right, false_or, some_inj, none_some}
+use Rattle.mesh.proofs.Tests.{is_false, false_or, some_inj, none_some}
 use Rattle.fault.proofs.Orders.{or_none, mapped_none}
 use Rattle.mesh.proofs.Bounds.{between_is, is_between, counts_none, none_counts}
 use Rattle.mesh.proofs.Members.{mem_cases}
@@ -73,13 +73,8 @@ true_lower i (Some k) e = (k, ltb-true k i e, refl)
 repeats_true : {u v z : ℕ} (ts : List Tri) (j : ℕ) (t : Tri) → Corner t u v z → has_lower ts j u v ≡ true → repeats ts j t ≡ true
 repeats_true {u} {v} {z} ts j (tri a b c) k e = go (turned k)
   where
-    at : (p q : ℕ) → u ≡ p → v ≡ q → has_lower ts j p q ≡ true
-    at p q i k = rw (← i, ← k) e
-
     go : Turned a b c u v z → repeats ts j (tri a b c) ≡ true
-    go (inl k) = or_left _ _ (at a b k.0 k.1)
-    go (inr (inl k)) = or_right (has_lower ts j a b) _ (or_left _ _ (at b c k.0 k.1))
-    go (inr (inr k)) = or_right (has_lower ts j a b) _ (or_right (has_lower ts j b c) _ (at c a k.0 k.1))
+    go k = grind (arith, tests)
 
 -- a triangle that repeats a side of a lower one is found to
 pub repeats_found : {u v y z : ℕ} (ts : List Tri) (i j : ℕ) (t t' : Tri) → i < j → slice_get ts i ≡ Some t → Corner t u v y → Corner t' u v z → repeats ts j t' ≡ true
@@ -111,19 +106,8 @@ some_of (Some k) e = (k, refl)
 pub open_parts : {u v z : ℕ} (ts : List Tri) (t : Tri) → Corner t u v z → is_open ts t ≡ false → no_side ts v u ≡ false
 open_parts {u} {v} {z} ts (tri a b c) k e = go (turned k)
   where
-    first : (no_side ts b a ≡ false) × ((no_side ts c b || no_side ts a c) ≡ false)
-    first = or_false (no_side ts b a) _ e
-
-    others : (no_side ts c b ≡ false) × (no_side ts a c ≡ false)
-    others = or_false (no_side ts c b) _ first.1
-
-    at : (p q : ℕ) → u ≡ p → v ≡ q → no_side ts q p ≡ false → no_side ts v u ≡ false
-    at p q i k h = rw (i, k) h
-
     go : Turned a b c u v z → no_side ts v u ≡ false
-    go (inl k) = at a b k.0 k.1 first.0
-    go (inr (inl k)) = at b c k.0 k.1 others.0
-    go (inr (inr k)) = at c a k.0 k.1 others.1
+    go k = grind (arith, tests)
 
 abbrev pub Backed : List Tri → Type 0
 Backed ts = (s : Side) → Mem s (sides ts) → Mem (back s) (sides ts)
@@ -228,15 +212,12 @@ pub record SmallCounts (c : Counts) : Type 0 where
 pub surveyed_small : (V : ℕ) (ts : List Tri) (c : Counts) → Ok c ≡ surveyed V ts → SmallCounts c
 surveyed_small V ts c e = go (survey_fault V ts) refl e
   where
-    ok_is : (d : Counts) → ◌≡◌ {A = Result Counts Fault} (Ok c) (Ok d) → c ≡ d
-    ok_is d e = cc
-
     go : (o : Option Fault) → survey_fault V ts ≡ o → Ok c ≡ counted_unless o V ts → SmallCounts c
-    go (Some f) i e = let z : ◌≡◌ {A = ℕ} 0 1 = cc in absurd (omega arith)
+    go (Some f) i e = cc
     go None i e =
         let h = edges_half_told V ts i in
         let l = survey_closed V ts i in
-        let d = ok_is (counted V (edge_count ts) (length ts)) e in
+        let d : c ≡ counted V (edge_count ts) (length ts) = cc in
         let two = h.0 in
         let few = h.1 in
         let many = l.few_vertices in

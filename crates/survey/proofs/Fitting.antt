@@ -1,11 +1,11 @@
 -- Triangles with three different corners that are vertices.
-use Rattle.std.proofs.Common.{◌≡◌, ℕ, ◌<◌, ◌≤◌, true, not, ◌&&◌, eqb, ltb, List, [], ◌∷◌, length, Some, None, sym, refl, ap, ◌∙◌, inl, inr, arith, ltb-true, lt-ltb, ne_eqb}
-use borrow.Author.Tests.{eqb-false, not-true, not-false}
+use Rattle.std.proofs.Common.{◌≡◌, ℕ, ◌<◌, ◌≤◌, true, not, List, [], ◌∷◌, length, Some, None, sym, refl, ap, ◌∙◌, inl, inr, arith}
+use Rattle.std.proofs.lemmas.Bool.Decides.{nat_tests}
+use borrow.Author.Tests.{not-false}
 use Rattle.std.specs.List.{slice_get}
 use Rattle.mesh.specs.Triangles.{Tri, tri}
 use Rattle.mesh.specs.Rings.{Corner, at_first, at_second, at_third, Link}
 use Rattle.mesh.specs.Closed.{Closed}
-use Rattle.mesh.proofs.Tests.{and_true, true_and}
 use Rattle.mesh.proofs.Links.{Turned, turned, link_nth, nth_link}
 use Rattle.survey.specs.Checks.{good_corners, bad_one, first_bad}
 use Rattle.survey.specs.Tables.{Below}
@@ -16,25 +16,17 @@ abbrev pub AllFit : ℕ → List Tri → Type 0
 AllFit V ts = (i : ℕ) (t : Tri) → slice_get ts i ≡ Some t → Fits V t
 
 pub good_fits : (V : ℕ) (t : Tri) → good_corners V t ≡ true → Fits V t
-good_fits V (tri a b c) e =
-    let p = and_true (ltb a V && (ltb b V && ltb c V)) (not (eqb a b) && (not (eqb b c) && not (eqb c a))) e in
-    let q = and_true (ltb a V) (ltb b V && ltb c V) p.0 in
-    let r = and_true (ltb b V) (ltb c V) q.1 in
-    let u = and_true (not (eqb a b)) (not (eqb b c) && not (eqb c a)) p.1 in
-    let w = and_true (not (eqb b c)) (not (eqb c a)) u.1 in
-    record {
-      a_below = ltb-true a V q.0;
-      b_below = ltb-true b V r.0;
-      c_below = ltb-true c V r.1;
-      ab = eqb-false a b (not-true _ u.0);
-      bc = eqb-false b c (not-true _ w.0);
-      ca = eqb-false c a (not-true _ w.1);
-    }
+good_fits V (tri a b c) e = record {
+  a_below = grind (arith, nat_tests);
+  b_below = grind (arith, nat_tests);
+  c_below = grind (arith, nat_tests);
+  ab = λ h. grind (arith, nat_tests);
+  bc = λ h. grind (arith, nat_tests);
+  ca = λ h. grind (arith, nat_tests);
+}
 
 pub fits_good : (V : ℕ) (t : Tri) → Fits V t → good_corners V t ≡ true
-fits_good V (tri a b c) d =
-    true_and _ _ (true_and _ _ (lt-ltb a V d.a_below) (true_and _ _ (lt-ltb b V d.b_below) (lt-ltb c V d.c_below)))
-    (true_and _ _ (ap not (ne_eqb a b d.ab)) (true_and _ _ (ap not (ne_eqb b c d.bc)) (ap not (ne_eqb c a d.ca))))
+fits_good V (tri a b c) d = grind (arith, nat_tests)
 
 pub none_bad : (V : ℕ) (ts : List Tri) → first_bad V ts ≡ None → AllFit V ts
 unfolding first_bad
@@ -45,10 +37,7 @@ unfolding first_bad
 fit_none V ts f = none_all (λ i o. bad_one V o) ts (λ i. refl) (λ i t e. ap not (fits_good V t (f i t e)))
 
 pub fit_below : (V : ℕ) (t : Tri) → Fits V t → V ≤ 16384 → Below 16384 t
-fit_below V (tri a b c) d l =
-    let p = d.a_below in
-    let q = d.b_below in
-    let r = d.c_below in ((omega arith), (omega arith), (omega arith))
+fit_below V (tri a b c) d l = (omega arith, omega arith, omega arith)
 
 pub below_all : (V : ℕ) (ts : List Tri) (i : ℕ) (t : Tri) → first_bad V ts ≡ None → slice_get ts i ≡ Some t → V ≤ 16384 → Below 16384 t
 below_all V ts i t e h l = fit_below V t (none_bad V ts e i t h) l
@@ -57,9 +46,9 @@ pub fit_links : (V : ℕ) (ts : List Tri) → AllFit V ts → (v x y : ℕ) → 
 fit_links V ts f v x y l = let r = link_nth ts l in go r.one (f r.num r.one r.there_is) r.corner
   where
     turn : (a b c : ℕ) → Different V a b c → Turned a b c v x y → (v < V) × (v ≡ x → ⊥)
-    turn a b c d (inl k) = let h = d.a_below in let i = k.0 in ((omega arith), λ e. d.ab (sym k.0 ∙ (e ∙ k.1)))
-    turn a b c d (inr (inl k)) = let h = d.b_below in let i = k.0 in ((omega arith), λ e. d.bc (sym k.0 ∙ (e ∙ k.1)))
-    turn a b c d (inr (inr k)) = let h = d.c_below in let i = k.0 in ((omega arith), λ e. d.ca (sym k.0 ∙ (e ∙ k.1)))
+    turn a b c d (inl k) = (omega arith, λ e. d.ab (sym k.0 ∙ (e ∙ k.1)))
+    turn a b c d (inr (inl k)) = (omega arith, λ e. d.bc (sym k.0 ∙ (e ∙ k.1)))
+    turn a b c d (inr (inr k)) = (omega arith, λ e. d.ca (sym k.0 ∙ (e ∙ k.1)))
 
     go : (t : Tri) → Fits V t → Corner t v x y → (v < V) × (v ≡ x → ⊥)
     go (tri a b c) d k = turn a b c d (turned k)
@@ -77,10 +66,4 @@ three_vertices V [] h f = absurd (omega arith)
 three_vertices V (t ∷ ts) h f = go t (f 0 t refl)
   where
     go : (t : Tri) → Fits V t → 3 ≤ V
-    go (tri x y z) d =
-        let a = d.a_below in
-        let b = d.b_below in
-        let c = d.c_below in
-        let ab = d.ab in
-        let bc = d.bc in
-        let ca = d.ca in omega arith
+    go (tri x y z) d = omega arith

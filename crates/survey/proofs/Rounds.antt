@@ -1,7 +1,7 @@
 -- One turn of the walk round a vertex.
-use Rattle.std.proofs.Common.{◌≡◌, ℕ, suc, ◌+◌, ◌-◌, ◌<◌, ◌≤◌, Bool, false, eqb, List, Some, None, Option, refl, ap, ◌∙◌, arith, eq-eqb, ne_eqb}
+use Rattle.std.proofs.Common.{◌≡◌, ℕ, suc, ◌+◌, ◌-◌, ◌<◌, Bool, false, eqb, List, Some, None, Option, refl, ap, ◌∙◌, arith, ne_eqb}
 use Rattle.mesh.specs.Triangles.{Tri}
-use Rattle.mesh.proofs.Tests.{cond_true, cond_false}
+use Rattle.mesh.proofs.Tests.{cond_false}
 use Rattle.survey.specs.Ringwalk.{ring_step, comes_round}
 
 abbrev pub on_from : List Tri → ℕ → ℕ → ℕ → Option ℕ → Bool
@@ -18,12 +18,3 @@ round_suc ts v a n x o f e =
 
 pub round_more : (ts : List Tri) (v a n i x y : ℕ) → i < n → (x ≡ a → ⊥) → ring_step ts v x ≡ Some y → comes_round ts v a (n - i) x ≡ comes_round ts v a (n - (i + 1)) y
 round_more ts v a n i x y h f e = let k : n - i ≡ suc (n - (i + 1)) = omega arith in ap (λ (m : ℕ). comes_round ts v a m x) k ∙ round_suc ts v a (n - (i + 1)) x (Some y) f e
-
-pub round_lost : (ts : List Tri) (v a n i x : ℕ) → i < n → (x ≡ a → ⊥) → ring_step ts v x ≡ None → comes_round ts v a (n - i) x ≡ false
-round_lost ts v a n i x h f e = let k : n - i ≡ suc (n - (i + 1)) = omega arith in ap (λ (m : ℕ). comes_round ts v a m x) k ∙ round_suc ts v a (n - (i + 1)) x None f e
-
-pub round_early : (ts : List Tri) (v a n i x : ℕ) → i < n → x ≡ a → comes_round ts v a (n - i) x ≡ false
-round_early ts v a n i x h e = let k : n - i ≡ suc (n - (i + 1)) = omega arith in ap (λ (m : ℕ). comes_round ts v a m x) k ∙ cond_true (eqb x a) false _ (eq-eqb x a e)
-
-pub round_end : (ts : List Tri) (v a n i x : ℕ) → n ≤ i → comes_round ts v a (n - i) x ≡ eqb x a
-round_end ts v a n i x h = let k : n - i ≡ 0 = omega arith in ap (λ (m : ℕ). comes_round ts v a m x) k

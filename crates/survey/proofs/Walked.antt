@@ -1,5 +1,6 @@
 -- The walk round a vertex is a lap of its links.
-use Rattle.std.proofs.Common.{◌≡◌, ℕ, zero, suc, ◌+◌, ◌-◌, ◌<◌, Bool, true, false, cond, ◌||◌, eqb, ◌⊎◌, List, [], ◌∷◌, length, Some, None, Option, sym, refl, ap, ◌∙◌, inl, inr, ⊎_elim, arith, eq-eqb, ne_eqb, eqb-true}
+use Rattle.std.proofs.Common.{◌≡◌, ℕ, zero, suc, ◌+◌, ◌<◌, Bool, true, false, cond, ◌||◌, eqb, ◌⊎◌, List, [], ◌∷◌, length, Some, None, Option, sym, refl, ap, ◌∙◌, inl, inr, ⊎_elim, arith, eq-eqb, eqb-true, tests}
+use Rattle.std.proofs.lemmas.Bool.Decides.{nat_tests}
 use native.Mathlib.Decide.{ℕ_discrete}
 use borrow.Author.Tests.{eqb-false, clash}
 use Rattle.std.specs.Option.{option_map}
@@ -8,7 +9,7 @@ use Rattle.mesh.specs.Lists.{Mem, now, later, Apart, no_one, one_more}
 use Rattle.mesh.specs.Triangles.{Tri, tri}
 use Rattle.mesh.specs.Sides.{Side, side, back, sides, side_of}
 use Rattle.mesh.specs.Rings.{Corner, at_first, at_second, at_third, Link, OneRing}
-use Rattle.mesh.proofs.Tests.{cond_true, cond_false, or_false, some_inj, none_some}
+use Rattle.mesh.proofs.Tests.{cond_true, some_inj, none_some}
 use Rattle.mesh.proofs.Members.{mem_cases}
 use Rattle.mesh.proofs.Walks.{Sharp}
 use Rattle.mesh.proofs.Links.{Turned, turned, corner_is, link_turn, link_side, side_link, sharp_once, link_nth, nth_link, found, lowest}
@@ -19,22 +20,11 @@ use Rattle.survey.proofs.Rounds.{round_suc}
 use Rattle.survey.proofs.Laps.{Lap, home, on, lap_reaches, reaches_lap}
 
 -- the third corner, with corners that differ
-third_at_a : (v a b c : ℕ) → a ≡ v → third_of v (tri a b c) ≡ c
-third_at_a v a b c e = cond_true (eqb a v) c _ (eq-eqb a v e)
-
-third_at_b : (v a b c : ℕ) → (a ≡ v → ⊥) → b ≡ v → third_of v (tri a b c) ≡ a
-third_at_b v a b c f e = cond_false (eqb a v) c _ (ne_eqb a v f) ∙ cond_true (eqb b v) a b (eq-eqb b v e)
-
-third_at_c : (v a b c : ℕ) → (a ≡ v → ⊥) → (b ≡ v → ⊥) → third_of v (tri a b c) ≡ b
-third_at_c v a b c f g = cond_false (eqb a v) c _ (ne_eqb a v f) ∙ cond_false (eqb b v) a b (ne_eqb b v g)
-
 corner_third : (V : ℕ) {v x y : ℕ} (t : Tri) → Fits V t → Corner t v x y → third_of v t ≡ y
 corner_third V {v} {x} {y} (tri a b c) d k = go (turned k)
   where
     go : Turned a b c v x y → third_of v (tri a b c) ≡ y
-    go (inl k) = third_at_a v a b c (sym k.0) ∙ sym k.2
-    go (inr (inl k)) = third_at_b v a b c (λ e. d.ab (e ∙ k.0)) (sym k.0) ∙ sym k.2
-    go (inr (inr k)) = third_at_c v a b c (λ e. d.ca (sym (e ∙ k.0))) (λ e. d.bc (e ∙ k.0)) ∙ sym k.2
+    go k = grind (arith, nat_tests)
 
 -- a touched triangle, read from v
 touch_corner : (v : ℕ) (t : Tri) → touches v t ≡ true → Corner t v (second_of v t) (third_of v t)
@@ -47,12 +37,7 @@ touch_corner v (tri a b c) e = go (eqb a v) refl (eqb b v) refl (eqb c v) refl e
     go false i false j false k e = absurd (clash e)
 
 touch_none : (v : ℕ) (t : Tri) → touches v t ≡ false → corners_in v t ≡ 0
-touch_none v (tri a b c) e =
-    let h = or_false (eqb a v) (eqb b v || eqb c v) e in
-    let k = or_false (eqb b v) (eqb c v) h.1 in
-    let p = cond_false {X = ℕ} (eqb a v) 1 0 h.0 in
-    let q = cond_false {X = ℕ} (eqb b v) 1 0 k.0 in
-    let r = cond_false {X = ℕ} (eqb c v) 1 0 k.1 in omega arith
+touch_none v (tri a b c) e = grind (arith, nat_tests)
 
 -- where v has corners, the last of its triangles is one
 pub record Touched (ts : List Tri) (v l : ℕ) : Type 0 where
@@ -105,8 +90,7 @@ outs_apart v (side p q ∷ ss) (one_more f d) = go (eqb p v) refl (outs_apart v 
 
 -- their number
 length_cond : (b : Bool) (x : ℕ) (xs : List ℕ) → length (cond b (x ∷ xs) xs) ≡ cond b 1 0 + length xs
-length_cond true x xs = omega arith
-length_cond false x xs = omega arith
+length_cond b x xs = grind (arith, tests)
 
 corners_cons : (t : Tri) (ts : List Tri) (v n : ℕ) → corners_to (t ∷ ts) v (suc n) ≡ corners_in v t + corners_to ts v n
 corners_cons t ts v zero = omega arith
@@ -125,9 +109,7 @@ corners_outs (tri a b c ∷ ts) v =
     let p = length_cond (eqb a v) b l2 in omega arith
 
 ring_suc : (ts : List Tri) (v n l : ℕ) → ring_from ts v (suc n) l ≡ ring_at ts v n (slice_get ts l)
-ring_suc ts v n l =
-    let d : suc n - 1 ≡ n = omega arith in
-    cond_false (eqb (suc n) 0) false _ (ne_eqb (suc n) 0 (λ e. omega arith)) ∙ ap (λ (m : ℕ). ring_at ts v m (slice_get ts l)) d
+ring_suc ts v n l = grind (arith, nat_tests)
 
 -- under no fault 16 and 17
 module _ (V : ℕ) (ts : List Tri) (fit : AllFit V ts) (once : Apart (sides ts)) (v : ℕ) where

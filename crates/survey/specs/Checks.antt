@@ -1,7 +1,8 @@
 -- The checks of single triangles: their corners, and their sides against those of all triangles.
-use Rattle.std.specs.Prelude.{ℕ, Bool, false, not, ◌&&◌, ◌||◌, List, length, is_some, Some, None, Option, nat_lt}
+use Rattle.std.specs.Prelude.{◌≡◌, ℕ, Bool, false, not, ◌&&◌, ◌||◌, List, length, is_some, Some, None, Option, nat_lt}
 use Rattle.std.specs.List.{slice_get}
-use Rattle.mesh.specs.Triangles.{Tri, tri}
+use Rattle.mesh.specs.declared.triangle.Triangle.{Triangle}
+use Rattle.mesh.specs.Triangles.{Tri, tri, tri_of}
 use Rattle.mesh.specs.Growth.{all_below, different}
 use Rattle.mesh.specs.Sides.{side_of}
 use Rattle.mesh.specs.Searches.{first_in}
@@ -61,3 +62,11 @@ first_repeated ts = first_in (repeats_at ts) 0 (length ts)
 
 unfoldable pub first_open : List Tri → Option ℕ
 first_open ts = first_in (open_at ts) 0 (length ts)
+
+-- the first triangle that fails by each test p that the calls compute
+abbrev pub FirstFailing : (ℕ → Triangle → Bool → Type 0) → List Tri → Option ℕ → Type 0
+FirstFailing Calls ts found =
+    (p : ℕ → Option Tri → Bool)
+    → ((i : ℕ) → p i None ≡ false)
+    → ((i : ℕ) (t : Triangle) (b : Bool) → Calls i t b → p i (Some (tri_of t)) ≡ b)
+    → found ≡ first_in (λ i. p i (slice_get ts i)) 0 (length ts)

@@ -1,7 +1,15 @@
 -- Tables with an entry for each vertex that a mesh may have: its corners counted, and its last triangle.
-use Rattle.std.specs.Prelude.{◌≡◌, ℕ, ◌+◌, ◌<◌, ◌≤◌, cond, List, slice_index}
+use Rattle.std.specs.Prelude.{◌≡◌, ℕ, ◌+◌, ◌<◌, ◌≤◌, cond, List, map, slice_index}
 use Rattle.mesh.specs.Triangles.{Tri, tri}
+use Rattle.survey.specs.declared.tally.Corners.{Corners}
 use Rattle.survey.specs.Ringwalk.{corners_in, corners_to, touches, last_to}
+
+-- the numbers of corners in a table, and the last triangles
+abbrev pub counts : List Corners → List ℕ
+counts cs = map (λ c. c.count) cs
+
+abbrev pub lasts : List Corners → List ℕ
+lasts cs = map (λ c. c.last) cs
 
 -- each corner is below n
 abbrev pub Below : ℕ → Tri → Type 0

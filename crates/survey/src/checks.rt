@@ -1,32 +1,37 @@
-// The checks of one triangle.
+// The checks of the triangles, and the lowest triangle that fails each.
 ghost use Rattle.std.specs.Prelude.{◌≡◌};
 ghost use Rattle.mesh.specs.Triangles.{tri_of};
-ghost use Rattle.survey.specs.Checks.{good_corners, bad_at, has_lower, repeats, repeats_at, no_side, is_open, open_at};
+ghost use Rattle.mesh.specs.Meshes.{vertex_total};
+ghost use Rattle.survey.specs.Checks.{good_corners, has_lower, repeats, no_side, is_open};
+ghost use Rattle.survey.specs.Checks.{FirstFailing, first_bad, first_repeated, first_open};
 
 use mesh::{ReadingSurface, Triangle};
+
+// The lowest triangle that fails, which `fails` tells of its number and itself.
+fn first_failing<S: ReadingSurface, F: Fn(u32, Triangle) -> bool>(s: &S, fails: F) -> Option<u32>
+    requires { F.IsAlwaysCallable fails }
+    ensures { FirstFailing (F.post fails) (S.mesh s.now).triangles result }
+{
+    (0..s.triangle_count()).find(|&i| s.triangle(i).is_some_and(|t| fails(i, t)))
+}
 
 fn good_corners(vertices: u32, t: Triangle) -> bool
     ensures { result ≡ good_corners vertices (tri_of t) }
 {
-    t.a < vertices && t.b < vertices && t.c < vertices && t.a != t.b && t.b != t.c && t.c != t.a
+    t.is_below(vertices) && t.has_different_corners()
 }
 
-pub(crate) fn bad_at<S: ReadingSurface>(s: &S, vertices: u32, i: u32) -> bool
-    ensures { result ≡ bad_at vertices (S.mesh s.now).triangles i }
+pub(crate) fn first_bad<S: ReadingSurface>(s: &S) -> Option<u32>
+    ensures { result ≡ first_bad (vertex_total (S.mesh s.now)) (S.mesh s.now).triangles }
 {
-    match s.triangle(i) {
-        Some(t) => !good_corners(vertices, t),
-        None => false,
-    }
+    let vertices = s.vertex_count();
+    first_failing(s, |_, t| !good_corners(vertices, t))
 }
 
 fn has_lower<S: ReadingSurface>(s: &S, i: u32, u: u32, v: u32) -> bool
     ensures { result ≡ has_lower (S.mesh s.now).triangles i u v }
 {
-    match s.side(u, v) {
-        Some(j) => j < i,
-        None => false,
-    }
+    s.side(u, v).is_some_and(|j| j < i)
 }
 
 fn repeats<S: ReadingSurface>(s: &S, i: u32, t: Triangle) -> bool
@@ -35,13 +40,10 @@ fn repeats<S: ReadingSurface>(s: &S, i: u32, t: Triangle) -> bool
     has_lower(s, i, t.a, t.b) || has_lower(s, i, t.b, t.c) || has_lower(s, i, t.c, t.a)
 }
 
-pub(crate) fn repeats_at<S: ReadingSurface>(s: &S, i: u32) -> bool
-    ensures { result ≡ repeats_at (S.mesh s.now).triangles i }
+pub(crate) fn first_repeated<S: ReadingSurface>(s: &S) -> Option<u32>
+    ensures { result ≡ first_repeated (S.mesh s.now).triangles }
 {
-    match s.triangle(i) {
-        Some(t) => repeats(s, i, t),
-        None => false,
-    }
+    first_failing(s, |i, t| repeats(s, i, t))
 }
 
 fn no_side<S: ReadingSurface>(s: &S, u: u32, v: u32) -> bool
@@ -56,11 +58,8 @@ fn is_open<S: ReadingSurface>(s: &S, t: Triangle) -> bool
     no_side(s, t.b, t.a) || no_side(s, t.c, t.b) || no_side(s, t.a, t.c)
 }
 
-pub(crate) fn open_at<S: ReadingSurface>(s: &S, i: u32) -> bool
-    ensures { result ≡ open_at (S.mesh s.now).triangles i }
+pub(crate) fn first_open<S: ReadingSurface>(s: &S) -> Option<u32>
+    ensures { result ≡ first_open (S.mesh s.now).triangles }
 {
-    match s.triangle(i) {
-        Some(t) => is_open(s, t),
-        None => false,
-    }
+    first_failing(s, |_, t| is_open(s, t))
 }

@@ -3,12 +3,10 @@
 
 mod checks;
 mod counts;
-mod passes;
 mod ring;
 mod tally;
 mod telling;
 mod theorems;
-mod unringed;
 
 pub use counts::Counts;
 pub use telling::survey;

@@ -1,43 +1,24 @@
-// The ring of one vertex, walked.
-ghost use Rattle.std.specs.Prelude.{◌≡◌};
-ghost use Rattle.std.specs.Option.{option_map};
-ghost use Rattle.std.specs.List.{slice_get};
+// The ring of one vertex, walked. The vertex goes beside its surface: three short functions want no type for both.
+ghost use Rattle.std.specs.Prelude.{◌≡◌, IsTrue};
 ghost use Rattle.mesh.specs.Triangles.{tri_of};
-ghost use Rattle.survey.specs.Ringwalk.{second_of, third_of, ring_step, comes_round, ring_from};
+ghost use Rattle.survey.specs.Ringwalk.{second_of, third_of, touches, ring_step, comes_round, ring_from};
 
+use crate::tally::Corners;
 use mesh::{ReadingSurface, Triangle};
 
-// Read from its corner v, the triangle is (v, second_of, third_of).
-fn second_of(v: u32, t: Triangle) -> u32
-    ensures { result ≡ second_of v (tri_of t) }
+// The triangle turned so that it begins with its corner v.
+fn turned_to(v: u32, t: Triangle) -> Triangle
+    ensures first { IsTrue (touches v (tri_of t)) → result.a ≡ v }
+    ensures second { result.b ≡ second_of v (tri_of t) }
+    ensures third { result.c ≡ third_of v (tri_of t) }
 {
-    if t.a == v {
-        t.b
-    } else if t.b == v {
-        t.c
+    let Triangle { a, b, c } = t;
+    if a == v {
+        t
+    } else if b == v {
+        Triangle { a: b, b: c, c: a }
     } else {
-        t.a
-    }
-}
-
-fn third_of(v: u32, t: Triangle) -> u32
-    ensures { result ≡ third_of v (tri_of t) }
-{
-    if t.a == v {
-        t.c
-    } else if t.b == v {
-        t.a
-    } else {
-        t.b
-    }
-}
-
-fn third_at<S: ReadingSurface>(s: &S, v: u32, i: u32) -> Option<u32>
-    ensures { result ≡ option_map (third_of v) (slice_get (S.mesh s.now).triangles i) }
-{
-    match s.triangle(i) {
-        Some(t) => Some(third_of(v, t)),
-        None => None,
+        Triangle { a: c, b: a, c: b }
     }
 }
 
@@ -45,38 +26,35 @@ fn third_at<S: ReadingSurface>(s: &S, v: u32, i: u32) -> Option<u32>
 fn ring_step<S: ReadingSurface>(s: &S, v: u32, x: u32) -> Option<u32>
     ensures { result ≡ ring_step (S.mesh s.now).triangles v x }
 {
-    match s.side(v, x) {
-        Some(i) => third_at(s, v, i),
-        None => None,
-    }
+    let t = s.triangle(s.side(v, x)?)?;
+    Some(turned_to(v, t).c)
 }
 
-// Whether the steps round v from b come to a after n of them and not before.
+// Whether the steps round v from b come to a after n of them and not before. A loop, since each step goes on from the
+// vertex that the last one came to.
 fn comes_round<S: ReadingSurface>(s: &S, v: u32, a: u32, n: u32, b: u32) -> bool
     ensures { result ≡ comes_round (S.mesh s.now).triangles v a n b }
 {
     let mut x = b;
-    for i in 0..n {
+    for _ in 0..n {
         if x == a {
             return false;
         }
-        match ring_step(s, v, x) {
-            Some(y) => x = y,
-            None => return false,
-        }
+        let Some(y) = ring_step(s, v, x) else {
+            return false;
+        };
+        x = y;
     }
     x == a
 }
 
-// Whether the n corners at v form one ring, walked from the triangle l.
-pub(crate) fn ring_from<S: ReadingSurface>(s: &S, v: u32, n: u32, l: u32) -> bool
-    ensures { result ≡ ring_from (S.mesh s.now).triangles v n l }
+// Whether the corners at v form one ring, walked from their last triangle.
+pub(crate) fn ring_from<S: ReadingSurface>(s: &S, v: u32, corners: Corners) -> bool
+    ensures { result ≡ ring_from (S.mesh s.now).triangles v corners.count corners.last }
 {
-    if n == 0 {
-        return false;
-    }
-    match s.triangle(l) {
-        Some(t) => comes_round(s, v, second_of(v, t), n - 1, third_of(v, t)),
-        None => false,
-    }
+    corners.count > 0
+        && s.triangle(corners.last).is_some_and(|t| {
+            let t = turned_to(v, t);
+            comes_round(s, v, t.b, corners.count - 1, t.c)
+        })
 }

@@ -1,56 +1,80 @@
-// The number of corners at each vertex, and the last triangle of each.
-ghost use Rattle.std.specs.Prelude.{◌≡◌, ◌+◌, ◌<◌, ◌≤◌, None, slice_index, slice_set};
+// The corners at each vertex, and the pass over the vertices: the lowest without one ring.
+ghost use Rattle.std.specs.Prelude.{◌≡◌, ◌+◌, ◌*◌, ◌^◌, ◌<◌, None, slice_index, slice_set};
 ghost use Rattle.mesh.specs.Triangles.{tri_of};
 ghost use Rattle.mesh.specs.Meshes.{vertex_total, triangle_total};
 ghost use Rattle.survey.specs.Checks.{first_bad};
-ghost use Rattle.survey.specs.Tables.{Below, Small, Zero, Counted, Seen, Added, Noted};
+ghost use Rattle.survey.specs.Ringwalk.{unringed_at, first_unringed};
+ghost use Rattle.survey.specs.Tables.{Below, Small, Counted, Seen, Added, Noted, counts, lasts};
 
-use mesh::{ReadingSurface, Triangle};
+use crate::ring::ring_from;
+use mesh::{MAX_TRIANGLES, MAX_VERTICES, ReadingSurface, Triangle};
 
-pub(crate) fn zeros() -> [u32; 16384]
-    ensures { Zero result }
-{
-    [0u32; 16384]
+const VERTICES: usize = MAX_VERTICES as usize;
+
+// How many corners of triangles are at one vertex, and the last triangle of them.
+#[derive(Clone, Copy)]
+pub(crate) struct Corners {
+    pub(crate) count: u32,
+    pub(crate) last: u32,
 }
 
-fn bump(xs: &mut [u32; 16384], v: u32)
-    requires vertex_in_range { v < 16384 }
-    requires room { slice_index xs.old v < 100000 }
-    ensures { xs.new ≡ slice_set xs.old v (slice_index xs.old v + 1) }
+// One corner more at v, of the triangle i.
+fn note_corner(table: &mut [Corners; VERTICES], v: u32, i: u32)
+    requires vertex_in_range { v < MAX_VERTICES }
+    requires room { slice_index (counts table.old) v + 1 < 2 ^ 32 }
+    ensures counted { counts table.new ≡ slice_set (counts table.old) v (slice_index (counts table.old) v + 1) }
+    ensures noted { lasts table.new ≡ slice_set (lasts table.old) v i }
 {
-    xs[v as usize] += 1;
+    let corners = &mut table[v as usize];
+    corners.count += 1;
+    corners.last = i;
 }
 
-fn bump_all(xs: &mut [u32; 16384], t: Triangle)
-    requires below { Below 16384 (tri_of t) }
-    requires small { Small xs.old 99000 }
-    ensures { Added xs.old (tri_of t) xs.new }
+// The three corners of the triangle i. No vertex has more corners than all triangles together.
+fn note(table: &mut [Corners; VERTICES], t: Triangle, i: u32)
+    requires below { Below MAX_VERTICES (tri_of t) }
+    requires small { Small (counts table.old) (3 * MAX_TRIANGLES) }
+    ensures counted { Added (counts table.old) (tri_of t) (counts table.new) }
+    ensures noted { Noted (lasts table.old) (tri_of t) i (lasts table.new) }
 {
-    bump(xs, t.a);
-    bump(xs, t.b);
-    bump(xs, t.c);
+    note_corner(table, t.a, i);
+    note_corner(table, t.b, i);
+    note_corner(table, t.c, i);
 }
 
-fn put_all(xs: &mut [u32; 16384], t: Triangle, i: u32)
-    requires { Below 16384 (tri_of t) }
-    ensures { Noted xs.old (tri_of t) i xs.new }
-{
-    xs[t.a as usize] = i;
-    xs[t.b as usize] = i;
-    xs[t.c as usize] = i;
+// A surface with an entry for each vertex that a mesh may have. The table is an array, so that
+// the survey cannot fail for want of memory.
+#[derive(Drop)]
+pub(crate) struct Tally<'a, S: ReadingSurface> {
+    surface: &'a S,
+    table: [Corners; VERTICES],
+    ghost counted: { Counted (S.mesh surface.now).triangles (triangle_total (S.mesh surface.now)) (counts table) },
+    ghost seen: { Seen (S.mesh surface.now).triangles (triangle_total (S.mesh surface.now)) (lasts table) },
 }
 
-pub(crate) fn tally<S: ReadingSurface>(s: &S, counts: &mut [u32; 16384], lasts: &mut [u32; 16384])
-    requires corners_good { first_bad (vertex_total (S.mesh s.now)) (S.mesh s.now).triangles ≡ None }
-    requires counts_zero { Zero counts.old }
-    requires lasts_zero { Zero lasts.old }
-    ensures counted { Counted (S.mesh s.now).triangles (triangle_total (S.mesh s.now)) counts.new }
-    ensures seen { Seen (S.mesh s.now).triangles (triangle_total (S.mesh s.now)) lasts.new }
-{
-    for i in 0..s.triangle_count() {
-        if let Some(t) = s.triangle(i) {
-            bump_all(counts, t);
-            put_all(lasts, t, i);
+impl<'a, S: ReadingSurface> Tally<'a, S> {
+    // Where no triangle has bad corners.
+    pub(crate) fn new(surface: &'a S) -> Self
+        requires { first_bad (vertex_total (S.mesh surface.now)) (S.mesh surface.now).triangles ≡ None }
+        ensures { result.surface.now ≡ surface.now }
+    {
+        let mut table = [Corners { count: 0, last: 0 }; VERTICES];
+        for (i, t) in (0..).zip(surface.triangles()) {
+            note(&mut table, t, i);
         }
+        Tally { surface, table }
+    }
+
+    fn is_unringed(&self, v: u32) -> bool
+        requires { v < MAX_VERTICES }
+        ensures { result ≡ unringed_at (S.mesh self.now.surface.now).triangles v }
+    {
+        !ring_from(self.surface, v, self.table[v as usize])
+    }
+
+    pub(crate) fn first_unringed(&self) -> Option<u32>
+        ensures { result ≡ first_unringed (vertex_total (S.mesh self.now.surface.now)) (S.mesh self.now.surface.now).triangles }
+    {
+        (0..self.surface.vertex_count()).find(|&v| self.is_unringed(v))
     }
 }
