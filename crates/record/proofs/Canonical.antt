@@ -1,11 +1,12 @@
 -- Bytes that pass the layout call's checks are those that the writer would write.
-use Rattle.std.proofs.Common.{◌≡◌, ℕ, ◌+◌, ◌-◌, ◌*◌, ◌/◌, ◌%◌, ◌^◌, ◌<◌, ◌≤◌, ◌&&◌, eqb, leb, List, [], ◌∷◌, ◌++◌, length, get_or, take, drop, None, sym, refl, ap, ◌∙◌, subst, ⊎_elim, arith}
-use native.Mathlib.Nat.{mod-one}
+use Rattle.std.proofs.Common.{◌≡◌, ℕ, zero, suc, ◌+◌, ◌-◌, ◌<◌, ◌≤◌, ◌&&◌, eqb, leb, List, [], ◌∷◌, ◌++◌, length, get_or, take, drop, None, sym, refl, ap, ◌∙◌, subst, ⊎_elim, arith}
 use Rattle.std.proofs.lemmas.List.FromFn.{length-map-range_with_len}
 use Rattle.std.proofs.lemmas.List.{take-append-drop, drop-drop, length-take-le, length-drop, get_or-take, get_or-drop, get_or_past}
+use Rattle.std.proofs.lemmas.Nat.{be_bytes_4}
 use Rattle.std.proofs.lemmas.Bool.{leb-true, eqb-true, and_parts, cases_lt}
 use Rattle.fault.specs.Faults.{or_else}
 use Rattle.fault.specs.declared.fault.Fault.TheVariants.{RecordLength, RecordVersion, RecordKind, MarksCutShort, SpareMarkBit, RecordSize, SpareCodeBit}
+use Rattle.fault.proofs.Orders.{or_none, test_passed}
 use Rattle.place.specs.Kinds.{Kind}
 use Rattle.place.specs.Words.{word, word_bytes}
 use Rattle.record.specs.Packing.{bytes_for, spare_of, mark_in, code_in, packed, Small}
@@ -13,22 +14,10 @@ use Rattle.record.specs.Parts.{code_count, codes_from, displacements_from, marks
 use Rattle.record.specs.Checks.{length_fault, version_fault, kind_fault, marks_fault, spare_mark_fault, head_fault, size_fault, code_bits_fault, layout_fault}
 use Rattle.record.specs.Written.{body_size, head_bytes, packed_marks, packed_codes, record_bytes}
 use Rattle.record.specs.Theorems.{WritesBack}
-use Rattle.record.proofs.Readiness.{passed, neither}
-use Rattle.record.proofs.Repacking.{marks_repacked, codes_repacked}
+use Rattle.record.proofs.Ending.{ends, none_spare}
+use Rattle.record.proofs.Repacking.{numbers_repacked}
 
 -- ---- the head
-
--- four bytes are those of the number that they stand for
-word_again : (a b c d n : ℕ) → a < 256 → b < 256 → c < 256 → d < 256 → n ≡ a * 16777216 + b * 65536 + c * 256 + d → word_bytes n ≡ a ∷ b ∷ c ∷ d ∷ []
-word_again a b c d n la lb lc ld e =
-    let q3 : n / 16777216 ≡ a = omega arith in
-    let q2 : n / 65536 ≡ a * 256 + b = omega arith in
-    let q1 : n / 256 ≡ a * 65536 + b * 256 + c = omega arith in
-    let r3 : n / 16777216 % 256 ≡ a = omega arith in
-    let r2 : n / 65536 % 256 ≡ b = omega arith in
-    let r1 : n / 256 % 256 ≡ c = omega arith in
-    let r0 : n % 256 ≡ d = omega arith in
-    cc
 
 -- the ten bytes of a head, and what follows
 ten : (bs : List ℕ) → 10 ≤ length bs → bs ≡ ((get_or bs 0 0 ∷ get_or bs 1 0 ∷ get_or bs 2 0 ∷ get_or bs 3 0 ∷ []) ++ (get_or bs 4 0 ∷ get_or bs 5 0 ∷ get_or bs 6 0 ∷ get_or bs 7 0 ∷ get_or bs 8 0 ∷ get_or bs 9 0 ∷ [])) ++ drop 10 bs
@@ -78,31 +67,34 @@ sound : {P D : Type 0} (k : Kind P D) (bs : List ℕ) (m : ℕ) → layout_fault
 sound k bs m none =
     let last_mark = 9 + bytes_for 8 m in
     let last_code = 9 + bytes_for 8 m + bytes_for 4 (code_count bs) in
-    let all = neither (head_fault k bs m) (or_else (size_fault k bs m) (code_bits_fault bs m)) none in
-    let rest = neither (size_fault k bs m) (code_bits_fault bs m) all.1 in
-    let a = neither (length_fault bs) (or_else (version_fault bs) (or_else (kind_fault k bs) (or_else (marks_fault bs m) (spare_mark_fault bs m)))) all.0 in
-    let b = neither (version_fault bs) (or_else (kind_fault k bs) (or_else (marks_fault bs m) (spare_mark_fault bs m))) a.1 in
-    let c = neither (kind_fault k bs) (or_else (marks_fault bs m) (spare_mark_fault bs m)) b.1 in
-    let d = neither (marks_fault bs m) (spare_mark_fault bs m) c.1 in
-    let lengths = and_parts (leb 10 (length bs)) (eqb (word bs 0 + 4) (length bs)) (passed (leb 10 (length bs) && eqb (word bs 0 + 4) (length bs)) RecordLength a.0) in
-    let edges = and_parts (leb m 49152) (leb (codes_from m) (length bs)) (passed (leb m 49152 && leb (codes_from m) (length bs)) MarksCutShort d.0) in
+    let all = or_none (head_fault k bs m) (or_else (size_fault k bs m) (code_bits_fault bs m)) none in
+    let rest = or_none (size_fault k bs m) (code_bits_fault bs m) all.1 in
+    let a = or_none (length_fault bs) (or_else (version_fault bs) (or_else (kind_fault k bs) (or_else (marks_fault bs m) (spare_mark_fault bs m)))) all.0 in
+    let b = or_none (version_fault bs) (or_else (kind_fault k bs) (or_else (marks_fault bs m) (spare_mark_fault bs m))) a.1 in
+    let c = or_none (kind_fault k bs) (or_else (marks_fault bs m) (spare_mark_fault bs m)) b.1 in
+    let d = or_none (marks_fault bs m) (spare_mark_fault bs m) c.1 in
+    let lengths = and_parts (leb 10 (length bs)) (eqb (word bs 0 + 4) (length bs)) (test_passed (leb 10 (length bs) && eqb (word bs 0 + 4) (length bs)) RecordLength a.0) in
+    let edges = and_parts (leb m 49152) (leb (codes_from m) (length bs)) (test_passed (leb m 49152 && leb (codes_from m) (length bs)) MarksCutShort d.0) in
     record {
       head_there = leb-true 10 (length bs) lengths.0;
       length_is = eqb-true (word bs 0 + 4) (length bs) lengths.1;
-      version_is = eqb-true (get_or bs 4 0) 1 (passed (eqb (get_or bs 4 0) 1) RecordVersion b.0);
-      kind_is = eqb-true (get_or bs 5 0) k.byte (passed (eqb (get_or bs 5 0) k.byte) RecordKind c.0);
+      version_is = eqb-true (get_or bs 4 0) 1 (test_passed (eqb (get_or bs 4 0) 1) RecordVersion b.0);
+      kind_is = eqb-true (get_or bs 5 0) k.byte (test_passed (eqb (get_or bs 5 0) k.byte) RecordKind c.0);
       marks_there = leb-true (codes_from m) (length bs) edges.1;
-      marks_low = eqb-true (spare_of 1 8 m (get_or bs last_mark 0)) 0 (passed (eqb (spare_of 1 8 m (get_or bs last_mark 0)) 0) (SpareMarkBit last_mark) d.1);
-      size_is = eqb-true (length bs) (due_size k bs m) (passed (eqb (length bs) (due_size k bs m)) RecordSize rest.0);
-      codes_low = eqb-true (spare_of 2 4 (code_count bs) (get_or bs last_code 0)) 0 (passed (eqb (spare_of 2 4 (code_count bs) (get_or bs last_code 0)) 0) (SpareCodeBit last_code) rest.1);
+      marks_low = eqb-true (spare_of 1 8 m (get_or bs last_mark 0)) 0 (test_passed (eqb (spare_of 1 8 m (get_or bs last_mark 0)) 0) (SpareMarkBit last_mark) d.1);
+      size_is = eqb-true (length bs) (due_size k bs m) (test_passed (eqb (length bs) (due_size k bs m)) RecordSize rest.0);
+      codes_low = eqb-true (spare_of 2 4 (code_count bs) (get_or bs last_code 0)) 0 (test_passed (eqb (spare_of 2 4 (code_count bs) (get_or bs last_code 0)) 0) (SpareCodeBit last_code) rest.1);
     }
 
--- the last byte of a stretch that begins at i and has n bytes; where it has none, it has no spare bits either
-last_of : (bs : List ℕ) (n i : ℕ) → 0 < n → get_or bs (i + n - 1) 0 ≡ get_or (take n (drop i bs)) (n - 1) 0
-last_of bs n i h = let e : i + n - 1 ≡ i + (n - 1) = omega arith in ap (λ (t : ℕ). get_or bs t 0) e ∙ sym (part_get_or bs n i (n - 1) (omega arith))
-
-no_bits : (b s : ℕ) → s ≡ 0 → b % 2 ^ s ≡ 0
-no_bits b s e = ap (λ (t : ℕ). b % 2 ^ t) e ∙ mod-one b
+-- the last byte of a stretch of numbers, which begins at byte a, has no spare bit set if the bytes have none there
+part_spare : (w n m a i : ℕ) (bs : List ℕ) → 0 < n → a ≡ 1 + i → spare_of w n m (get_or bs (i + bytes_for n m) 0) ≡ 0 → spare_of w n m (get_or (take (bytes_for n m) (drop a bs)) (bytes_for n m - 1) 0) ≡ 0
+part_spare w n m a i bs pos at low = ⊎_elim some (none_spare w n m (get_or (take (bytes_for n m) (drop a bs)) (bytes_for n m - 1) 0)) (cases_lt 0 m)
+  where
+    some : 0 < m → spare_of w n m (get_or (take (bytes_for n m) (drop a bs)) (bytes_for n m - 1) 0) ≡ 0
+    some h =
+        let e = ends n m pos h in
+        let last : a + (bytes_for n m - 1) ≡ i + bytes_for n m = omega (arith, e.1.1.bytes) in
+        ap (spare_of w n m) (part_get_or bs (bytes_for n m) a (bytes_for n m - 1) (omega (arith, e.1.1.bytes)) ∙ ap (λ (t : ℕ). get_or bs t 0) last) ∙ low
 
 module _ {P D : Type 0} (k : Kind P D) (bs : List ℕ) (m : ℕ) (small : Small 8 bs) (none : layout_fault k bs m ≡ None) where
   facts : Sound k bs m
@@ -110,28 +102,6 @@ module _ {P D : Type 0} (k : Kind P D) (bs : List ℕ) (m : ℕ) (small : Small 
 
   codes_there : codes_from m + bytes_for 4 (code_count bs) ≤ length bs
   codes_there = omega (arith, facts.size_is)
-
-  marks_spare : spare_of 1 8 m (get_or (marks_of bs m) (bytes_for 8 m - 1) 0) ≡ 0
-  marks_spare = ⊎_elim some zero_edges (cases_lt 0 m)
-    where
-      some : 0 < m → spare_of 1 8 m (get_or (marks_of bs m) (bytes_for 8 m - 1) 0) ≡ 0
-      some h =
-          let e : 10 + bytes_for 8 m - 1 ≡ 9 + bytes_for 8 m = omega arith in
-          ap (spare_of 1 8 m) (sym (last_of bs (bytes_for 8 m) 10 (omega arith)) ∙ ap (λ (t : ℕ). get_or bs t 0) e) ∙ facts.marks_low
-
-      zero_edges : m ≤ 0 → spare_of 1 8 m (get_or (marks_of bs m) (bytes_for 8 m - 1) 0) ≡ 0
-      zero_edges h = no_bits (get_or (marks_of bs m) (bytes_for 8 m - 1) 0) (1 * ((8 - m % 8) % 8)) (omega arith)
-
-  codes_spare : spare_of 2 4 (code_count bs) (get_or (codes_of bs m) (bytes_for 4 (code_count bs) - 1) 0) ≡ 0
-  codes_spare = ⊎_elim some no_codes (cases_lt 0 (code_count bs))
-    where
-      some : 0 < code_count bs → spare_of 2 4 (code_count bs) (get_or (codes_of bs m) (bytes_for 4 (code_count bs) - 1) 0) ≡ 0
-      some h =
-          let e : codes_from m + bytes_for 4 (code_count bs) - 1 ≡ 9 + bytes_for 8 m + bytes_for 4 (code_count bs) = omega arith in
-          ap (spare_of 2 4 (code_count bs)) (sym (last_of bs (bytes_for 4 (code_count bs)) (codes_from m) (omega arith)) ∙ ap (λ (t : ℕ). get_or bs t 0) e) ∙ facts.codes_low
-
-      no_codes : code_count bs ≤ 0 → spare_of 2 4 (code_count bs) (get_or (codes_of bs m) (bytes_for 4 (code_count bs) - 1) 0) ≡ 0
-      no_codes h = no_bits (get_or (codes_of bs m) (bytes_for 4 (code_count bs) - 1) 0) (2 * ((4 - code_count bs % 4) % 4)) (omega arith)
 
   marks_long : length (marks_read bs m) ≡ m
   marks_long = length-map-range_with_len (mark_in (marks_of bs m)) 0 m
@@ -142,12 +112,12 @@ module _ {P D : Type 0} (k : Kind P D) (bs : List ℕ) (m : ℕ) (small : Small 
   marks_again : packed_marks (marks_read bs m) ≡ marks_of bs m
   marks_again =
       ap (λ (t : ℕ). packed 1 8 (bytes_for 8 t) (marks_read bs m)) marks_long
-      ∙ marks_repacked m (marks_of bs m) (part_length bs (bytes_for 8 m) 10 facts.marks_there) (part_bytes bs (bytes_for 8 m) 10 facts.marks_there small) marks_spare
+      ∙ numbers_repacked 1 8 m (marks_of bs m) (omega arith) (part_length bs (bytes_for 8 m) 10 facts.marks_there) (part_bytes bs (bytes_for 8 m) 10 facts.marks_there small) (part_spare 1 8 m 10 9 bs (omega arith) (omega arith) facts.marks_low)
 
   codes_again : packed_codes (codes_read bs m) ≡ codes_of bs m
   codes_again =
       ap (λ (t : ℕ). packed 2 4 (bytes_for 4 t) (codes_read bs m)) codes_long
-      ∙ codes_repacked (code_count bs) (codes_of bs m) (part_length bs (bytes_for 4 (code_count bs)) (codes_from m) codes_there) (part_bytes bs (bytes_for 4 (code_count bs)) (codes_from m) codes_there small) codes_spare
+      ∙ numbers_repacked 2 4 (code_count bs) (codes_of bs m) (omega arith) (part_length bs (bytes_for 4 (code_count bs)) (codes_from m) codes_there) (part_bytes bs (bytes_for 4 (code_count bs)) (codes_from m) codes_there small) (part_spare 2 4 (code_count bs) (codes_from m) (9 + bytes_for 8 m) bs (omega arith) (omega arith) facts.codes_low)
 
   -- the stretches one behind another
   body_again : packed_marks (marks_read bs m) ++ (packed_codes (codes_read bs m) ++ displacements_of bs m) ≡ drop 10 bs
@@ -166,7 +136,14 @@ module _ {P D : Type 0} (k : Kind P D) (bs : List ℕ) (m : ℕ) (small : Small 
       omega (arith, length-drop (displacements_from bs m) bs, codes_there, facts.length_is)
 
   word_at : (i : ℕ) → word_bytes (word bs i) ≡ get_or bs i 0 ∷ get_or bs (i + 1) 0 ∷ get_or bs (i + 2) 0 ∷ get_or bs (i + 3) 0 ∷ []
-  word_at i = word_again (get_or bs i 0) (get_or bs (i + 1) 0) (get_or bs (i + 2) 0) (get_or bs (i + 3) 0) (word bs i) (small i) (small (i + 1)) (small (i + 2)) (small (i + 3)) refl
+  word_at i = be_bytes_4 (get_or bs i 0 ∷ get_or bs (i + 1) 0 ∷ get_or bs (i + 2) 0 ∷ get_or bs (i + 3) 0 ∷ []) (word bs i) refl each refl
+    where
+      each : (j : ℕ) → get_or (get_or bs i 0 ∷ get_or bs (i + 1) 0 ∷ get_or bs (i + 2) 0 ∷ get_or bs (i + 3) 0 ∷ []) j 0 < 256
+      each zero = small i
+      each (suc zero) = small (i + 1)
+      each (suc (suc zero)) = small (i + 2)
+      each (suc (suc (suc zero))) = small (i + 3)
+      each (suc (suc (suc (suc j)))) = omega arith
 
   pub written_again : record_bytes k (marks_read bs m) (codes_read bs m) (displacements_of bs m) ≡ bs
   written_again =

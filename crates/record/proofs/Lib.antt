@@ -1,9 +1,9 @@
-pub mod Packing
 pub mod Refusing
 pub mod Readiness
 pub mod Writing
+pub mod Ending
 pub mod Unpacking
-pub mod Words
+pub mod Packing
 pub mod Reading
 pub mod Repacking
 pub mod Canonical

@@ -1,7 +1,10 @@
--- Packing numbers into bytes: one byte more, and what a byte is made of.
-use Rattle.std.proofs.Common.{◌≡◌, ℕ, zero, suc, ◌+◌, ◌*◌, ◌^◌, List, [], ◌∷◌, ◌++◌, get_or, drop, sym, ap, ◌∙◌, add-zero, add_comm, mul-suc, arith}
+-- Packing numbers into bytes: one number more in a byte, and one byte more.
+use Rattle.std.proofs.Common.{◌≡◌, ℕ, zero, suc, ◌+◌, ◌*◌, ◌%◌, ◌^◌, ◌<◌, ◌≤◌, List, [], ◌∷◌, ◌++◌, get_or, drop, sym, ap, ◌∙◌, add_comm, mul_comm, mul_assoc, mul-suc, mul-zero, add-one, arith}
+use Rattle.std.proofs.Math.Nat.{add-mul, pow-le-pow_right}
+use Rattle.std.proofs.lemmas.Nat.{mul-le, one_shl}
 use Rattle.std.proofs.lemmas.List.{get_or-drop, drop-drop}
-use Rattle.record.specs.Packing.{gathered, packed}
+use Rattle.record.specs.Packing.{Fills, Small, gathered, packed}
+use Rattle.record.proofs.Unpacking.{pow_more, gathered_lt}
 
 pub packed_more : (w n k : ℕ) (xs : List ℕ) → packed w n (suc k) xs ≡ packed w n k xs ++ gathered w n (drop (n * k) xs) ∷ []
 packed_more w n zero xs = let e : ◌≡◌ {A = ℕ} 0 (n * 0) = omega arith in ap (λ (t : ℕ). gathered w n (drop t xs) ∷ []) e
@@ -11,34 +14,31 @@ packed_more w n (suc p) xs =
     (packed_more w n p (drop n xs)
     ∙ ap (λ (l : List ℕ). packed w n p (drop n xs) ++ gathered w n l ∷ []) (drop-drop (n * p) n xs ∙ ap (λ (t : ℕ). drop t xs) e))
 
--- the first number of what is left of a list
-first : (i : ℕ) (xs : List ℕ) → get_or (drop i xs) 0 0 ≡ get_or xs i 0
-first i xs = get_or-drop i xs 0 0 ∙ ap (λ (t : ℕ). get_or xs t 0) (add-zero i)
+-- the numbers of a byte with one more behind them
+gathered_more : (w m : ℕ) (xs : List ℕ) → gathered w (suc m) xs ≡ gathered w m xs * 2 ^ w + get_or xs m 0
+gathered_more w zero xs =
+    let e : 2 ^ (w * 0) ≡ 1 = ap (λ (t : ℕ). 2 ^ t) (mul-zero w) in
+    ap (λ (t : ℕ). get_or xs 0 0 * t + 0) e ∙ omega arith
+gathered_more w (suc m) xs =
+    let x = get_or xs 0 0 in
+    let g = gathered w m (drop 1 xs) in
+    let p : x * 2 ^ (w * suc m) ≡ x * 2 ^ (w * m) * 2 ^ w = ap (λ (t : ℕ). x * t) (pow_more w m ∙ mul_comm (2 ^ w) (2 ^ (w * m))) ∙ sym (mul_assoc x (2 ^ (w * m)) (2 ^ w)) in
+    let q : (x * 2 ^ (w * m) + g) * 2 ^ w ≡ x * 2 ^ (w * m) * 2 ^ w + g * 2 ^ w = add-mul (x * 2 ^ (w * m)) g (2 ^ w) in
+    let r : get_or (drop 1 xs) m 0 ≡ get_or xs (suc m) 0 = get_or-drop 1 xs m 0 ∙ ap (λ (t : ℕ). get_or xs t 0) (omega arith) in
+    omega (arith, p, q, r, gathered_more w m (drop 1 xs))
 
--- a byte's first number with what follows it
-next : (w m i : ℕ) (xs : List ℕ) → gathered w (suc m) (drop i xs) ≡ get_or xs i 0 * 2 ^ (w * m) + gathered w m (drop (i + 1) xs)
-next w m i xs = ap (λ (t : ℕ). t * 2 ^ (w * m) + gathered w m (drop 1 (drop i xs))) (first i xs) ∙ ap (λ (l : List ℕ). get_or xs i 0 * 2 ^ (w * m) + gathered w m l) (drop-drop 1 i xs)
+module _ (w n : ℕ) (fills : Fills w n) where
+  -- the power of two that the code shifts out
+  pub shifted : 1 * 2 ^ w % 256 ≡ 2 ^ w
+  shifted = one_shl w 8 (omega (arith, mul-le w 2 w n (omega arith) fills.several, fills.eight))
 
--- the same at a number that is one more
-later : (w m i j : ℕ) (xs : List ℕ) → i + 1 ≡ j → gathered w (suc m) (drop i xs) ≡ get_or xs i 0 * 2 ^ (w * m) + gathered w m (drop j xs)
-later w m i j xs e = next w m i xs ∙ ap (λ (t : ℕ). get_or xs i 0 * 2 ^ (w * m) + gathered w m (drop t xs)) e
-
-pub four : (i : ℕ) (xs : List ℕ) → gathered 2 4 (drop i xs) ≡ get_or xs i 0 * 64 + get_or xs (i + 1) 0 * 16 + get_or xs (i + 2) 0 * 4 + get_or xs (i + 3) 0
-four i xs =
-    let a = later 2 3 i (i + 1) xs (omega arith) in
-    let b = later 2 2 (i + 1) (i + 2) xs (omega arith) in
-    let c = later 2 1 (i + 2) (i + 3) xs (omega arith) in
-    let d = later 2 0 (i + 3) (i + 4) xs (omega arith) in
-    omega arith
-
-pub eight : (i : ℕ) (xs : List ℕ) → gathered 1 8 (drop i xs) ≡ get_or xs i 0 * 128 + get_or xs (i + 1) 0 * 64 + get_or xs (i + 2) 0 * 32 + get_or xs (i + 3) 0 * 16 + (get_or xs (i + 4) 0 * 8 + get_or xs (i + 5) 0 * 4 + get_or xs (i + 6) 0 * 2 + get_or xs (i + 7) 0)
-eight i xs =
-    let a = later 1 7 i (i + 1) xs (omega arith) in
-    let b = later 1 6 (i + 1) (i + 2) xs (omega arith) in
-    let c = later 1 5 (i + 2) (i + 3) xs (omega arith) in
-    let d = later 1 4 (i + 3) (i + 4) xs (omega arith) in
-    let e = later 1 3 (i + 4) (i + 5) xs (omega arith) in
-    let f = later 1 2 (i + 5) (i + 6) xs (omega arith) in
-    let g = later 1 1 (i + 6) (i + 7) xs (omega arith) in
-    let h = later 1 0 (i + 7) (i + 8) xs (omega arith) in
-    omega arith
+  -- a step of gathering: the byte with one number more, which still fits
+  pub one_more : (i b : ℕ) (xs : List ℕ) → Small w xs → i < n → b ≡ gathered w i xs → (b * (1 * 2 ^ w % 256) + get_or xs i 0 ≡ gathered w (i + 1) xs) × (gathered w (i + 1) xs < 256)
+  one_more i b xs small l e =
+      let up : w * suc i ≤ w * n = mul-le w (suc i) w n (omega arith) l in
+      let top : 2 ^ (w * n) ≡ 256 = ap (λ (t : ℕ). 2 ^ t) fills.eight in
+      let more : gathered w (i + 1) xs ≡ gathered w (suc i) xs = ap (λ (t : ℕ). gathered w t xs) (add-one i) in
+      let step : b * (1 * 2 ^ w % 256) ≡ gathered w i xs * 2 ^ w = ap (λ (t : ℕ). b * t) shifted ∙ ap (λ (t : ℕ). t * 2 ^ w) e in (
+        omega (arith, step, more, gathered_more w i xs),
+        omega (arith, more, gathered_lt w (suc i) xs small, pow-le-pow_right {n = 2} (omega arith) up, top),
+      )

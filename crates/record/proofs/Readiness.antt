@@ -2,22 +2,13 @@
 use Rattle.std.proofs.Common.{◌≡◌, ℕ, zero, suc, ◌+◌, ◌*◌, ◌≤◌, Bool, true, false, cond, eqb, leb, List, [], ◌∷◌, length, get_or, Some, None, Option, sym, refl, ◌∙◌, arith}
 use Rattle.std.proofs.lemmas.Bool.{leb-true, eqb-true, and_parts, cond_both}
 use Rattle.std.proofs.lemmas.Nat.{mul-le}
-use Rattle.fault.specs.Faults.{or_else}
 use Rattle.fault.specs.declared.fault.Fault.{Fault}
 use Rattle.fault.specs.declared.fault.Fault.TheVariants.{PartLengths, ValueTooLarge, ShortBuffer}
+use Rattle.fault.proofs.Orders.{or_none, test_passed}
 use Rattle.place.specs.Kinds.{Kind}
 use Rattle.record.specs.Written.{record_size}
 use Rattle.record.specs.Refusals.{not_zero, parts_fit, parts_fault, over_fault, values_fault, room_fault, write_fault, Ready}
 use Rattle.record.specs.Theorems.{Accepted}
-
--- a check that finds nothing
-pub passed : (b : Bool) (f : Fault) → cond b None (Some f) ≡ None → b ≡ true
-passed true f e = refl
-passed false f e = let z : ◌≡◌ {A = ℕ} 0 1 = cc in absurd (omega arith)
-
-pub neither : (a b : Option Fault) → or_else a b ≡ None → (a ≡ None) × (b ≡ None)
-neither None b e = (refl, e)
-neither (Some f) b e = let z : ◌≡◌ {A = ℕ} 0 1 = cc in absurd (omega arith)
 
 -- no number is over the limit
 pub none_over : (limit i : ℕ) (xs : List ℕ) → over_fault limit i xs ≡ None → (k : ℕ) → get_or xs k 0 ≤ limit
@@ -26,12 +17,12 @@ none_over limit i (x ∷ xs) e zero = leb-true x limit (within (leb x limit) (ov
   where
     within : (b : Bool) (o : Option Fault) → cond b o (Some (ValueTooLarge i)) ≡ None → b ≡ true
     within true o h = refl
-    within false o h = let z : ◌≡◌ {A = ℕ} 0 1 = cc in absurd (omega arith)
+    within false o h = absurd (cc)
 none_over limit i (x ∷ xs) e (suc k) = none_over limit (i + 1) xs (rest (leb x limit) (over_fault limit (i + 1) xs) e) k
   where
     rest : (b : Bool) (o : Option Fault) → cond b o (Some (ValueTooLarge i)) ≡ None → o ≡ None
     rest true o h = h
-    rest false o h = let z : ◌≡◌ {A = ℕ} 0 1 = cc in absurd (omega arith)
+    rest false o h = absurd (cc)
 
 pub not_zero_le : (xs : List ℕ) → not_zero xs ≤ length xs
 not_zero_le [] = omega arith
@@ -62,16 +53,16 @@ module _ {P D : Type 0} (k : Kind P D) (narrow : k.displacement_width ≤ 12) (m
 
   pub accepted : (room : ℕ) → write_fault k ms cs ds room ≡ None → Accepted k ms cs ds
   accepted room e =
-      let a = neither (parts_fault k ms cs ds) _ e in
-      let b = neither (values_fault ms cs) (room_fault ms cs ds room) a.1 in
+      let a = or_none (parts_fault k ms cs ds) _ e in
+      let b = or_none (values_fault ms cs) (room_fault ms cs ds room) a.1 in
       record { parts_fit = a.0; values_fit = b.0 }
 
   pub ready : (room : ℕ) → write_fault k ms cs ds room ≡ None → Ready ms cs ds room
   ready room e =
-      let a = neither (parts_fault k ms cs ds) _ e in
-      let b = neither (values_fault ms cs) (room_fault ms cs ds room) a.1 in
-      let v = neither (over_fault 1 0 ms) (over_fault 3 0 cs) b.0 in
-      let p = passed (parts_fit k ms cs ds) PartLengths a.0 in
+      let a = or_none (parts_fault k ms cs ds) _ e in
+      let b = or_none (values_fault ms cs) (room_fault ms cs ds room) a.1 in
+      let v = or_none (over_fault 1 0 ms) (over_fault 3 0 cs) b.0 in
+      let p = test_passed (parts_fit k ms cs ds) PartLengths a.0 in
       let f = few (parts_fit k ms cs ds) refl p in
       record {
         few_marks = f.few_marks;
@@ -79,5 +70,5 @@ module _ {P D : Type 0} (k : Kind P D) (narrow : k.displacement_width ≤ 12) (m
         few_displacements = f.few_displacements;
         marks_small = λ i. omega (arith, none_over 1 0 ms v.0 i);
         codes_small = λ i. omega (arith, none_over 3 0 cs v.1 i);
-        fits = leb-true (record_size ms cs ds) room (passed (leb (record_size ms cs ds) room) (ShortBuffer (record_size ms cs ds)) b.1);
+        fits = leb-true (record_size ms cs ds) room (test_passed (leb (record_size ms cs ds) room) (ShortBuffer (record_size ms cs ds)) b.1);
       }

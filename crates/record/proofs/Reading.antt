@@ -1,12 +1,12 @@
 -- What is written reads back.
-use Rattle.std.proofs.Common.{◌≡◌, ℕ, suc, ◌+◌, ◌-◌, ◌*◌, ◌/◌, ◌%◌, ◌^◌, ◌<◌, ◌≤◌, true, ◌&&◌, eqb, ltb, leb, List, ◌++◌, length, get_or, take, drop, Some, None, Option, sym, refl, ap, ◌∙◌, ⊎_elim, arith}
-use native.Mathlib.Nat.{mod-one}
+use Rattle.std.proofs.Common.{◌≡◌, ℕ, suc, ◌+◌, ◌-◌, ◌*◌, ◌/◌, ◌%◌, ◌^◌, ◌<◌, ◌≤◌, true, ◌&&◌, eqb, ltb, leb, List, ◌++◌, length, get_or, take, drop, Some, None, sym, refl, ap, ◌∙◌, ⊎_elim, arith}
 use Rattle.std.proofs.lemmas.List.FromFn.{fill_by_all}
 use Rattle.std.proofs.lemmas.List.{take_at, drop_at, drop-drop, take_all, ext_get_or, get_or-drop, get_or_append_left}
 use Rattle.std.proofs.lemmas.Bool.{cases_lt, le-leb, lt-ltb, eq-eqb, cond-true, and_from}
+use Rattle.std.proofs.lemmas.Nat.{from_be_bytes-to_be_bytes_4}
 use Rattle.fault.specs.Faults.{or_else}
-use Rattle.fault.specs.declared.fault.Fault.{Fault}
 use Rattle.fault.specs.declared.fault.Fault.TheVariants.{PartLengths, RecordLength, RecordKind, MarksCutShort, SpareMarkBit, RecordSize, SpareCodeBit}
+use Rattle.fault.proofs.Orders.{or_none, none_or, test_passed}
 use Rattle.place.specs.Kinds.{Kind}
 use Rattle.place.specs.Words.{word}
 use Rattle.record.specs.Packing.{bytes_for, spare_of, mark_in, code_in, mark_at, code_at, packed, Small, marks_set}
@@ -15,48 +15,27 @@ use Rattle.record.specs.Checks.{length_fault, version_fault, kind_fault, marks_f
 use Rattle.record.specs.Written.{body_size, record_size, packed_marks, packed_codes, record_bytes}
 use Rattle.record.specs.Refusals.{not_zero, parts_fit, over_fault}
 use Rattle.record.specs.Theorems.{Accepted, ReadsAs, ReadsBack, OneToOne}
-use Rattle.record.proofs.Readiness.{passed, neither, none_over, Few, few, displacements_due}
+use Rattle.record.proofs.Readiness.{none_over, Few, few, displacements_due}
 use Rattle.record.proofs.Writing.{length_packed, length_record}
+use Rattle.record.proofs.Ending.{ends, none_spare}
 use Rattle.record.proofs.Unpacking.{number_packed, last_low, marks_counted}
-use Rattle.record.proofs.Words.{word_back}
-
-none_of_two : (a b : Option Fault) → a ≡ None → b ≡ None → or_else a b ≡ None
-none_of_two a b e f = ap (λ (t : Option Fault). or_else t b) e ∙ f
 
 -- ---- spare bits
-
-no_bits : (b s : ℕ) → s ≡ 0 → b % 2 ^ s ≡ 0
-no_bits b s e = ap (λ (t : ℕ). b % 2 ^ t) e ∙ mod-one b
 
 low_bits : (w n k : ℕ) (xs : List ℕ) (j b s : ℕ) → j ≤ n → length xs ≡ n * k + j → b ≡ get_or (packed w n (suc k) xs) k 0 → s ≡ n - j → b % 2 ^ (w * s) ≡ 0
 low_bits w n k xs j b s l e f g = ap (λ (t : ℕ). t % 2 ^ (w * s)) f ∙ ap (λ (t : ℕ). get_or (packed w n (suc k) xs) k 0 % 2 ^ (w * t)) g ∙ last_low w n k xs j l e
 
--- the last byte of marks, and of codes, has no spare bit set
-mark_spare : (ms : List ℕ) (b : ℕ) → (0 < length ms → b ≡ get_or (packed_marks ms) (bytes_for 8 (length ms) - 1) 0) → spare_of 1 8 (length ms) b ≡ 0
-mark_spare ms b at = ⊎_elim some none (cases_lt 0 (length ms))
+-- the last byte of numbers that were packed has no spare bit set
+spare_written : (w n : ℕ) (xs : List ℕ) (b : ℕ) → 0 < n → (0 < length xs → b ≡ get_or (packed w n (bytes_for n (length xs)) xs) (bytes_for n (length xs) - 1) 0) → spare_of w n (length xs) b ≡ 0
+spare_written w n xs b pos at = ⊎_elim some (none_spare w n (length xs) b) (cases_lt 0 (length xs))
   where
-    none : length ms ≤ 0 → spare_of 1 8 (length ms) b ≡ 0
-    none h = no_bits b (1 * ((8 - length ms % 8) % 8)) (omega arith)
-
-    some : 0 < length ms → spare_of 1 8 (length ms) b ≡ 0
+    some : 0 < length xs → spare_of w n (length xs) b ≡ 0
     some h =
-        let k = bytes_for 8 (length ms) - 1 in
-        let one_more : bytes_for 8 (length ms) ≡ suc k = omega arith in
-        let e : length ms ≡ 8 * k + (length ms - 8 * k) = omega arith in
-        low_bits 1 8 k ms (length ms - 8 * k) b ((8 - length ms % 8) % 8) (omega arith) e (at h ∙ ap (λ (t : ℕ). get_or (packed 1 8 t ms) k 0) one_more) (omega arith)
-
-code_spare : (cs : List ℕ) (b : ℕ) → (0 < length cs → b ≡ get_or (packed_codes cs) (bytes_for 4 (length cs) - 1) 0) → spare_of 2 4 (length cs) b ≡ 0
-code_spare cs b at = ⊎_elim some none (cases_lt 0 (length cs))
-  where
-    none : length cs ≤ 0 → spare_of 2 4 (length cs) b ≡ 0
-    none h = no_bits b (2 * ((4 - length cs % 4) % 4)) (omega arith)
-
-    some : 0 < length cs → spare_of 2 4 (length cs) b ≡ 0
-    some h =
-        let k = bytes_for 4 (length cs) - 1 in
-        let one_more : bytes_for 4 (length cs) ≡ suc k = omega arith in
-        let e : length cs ≡ 4 * k + (length cs - 4 * k) = omega arith in
-        low_bits 2 4 k cs (length cs - 4 * k) b ((4 - length cs % 4) % 4) (omega arith) e (at h ∙ ap (λ (t : ℕ). get_or (packed 2 4 t cs) k 0) one_more) (omega arith)
+        let e = ends n (length xs) pos h in
+        let last : bytes_for n (length xs) - 1 ≡ e.0 = omega (arith, e.1.1.bytes) in
+        low_bits w n e.0 xs e.1.0 b ((n - length xs % n) % n) e.1.1.few e.1.1.numbers
+        (at h ∙ ap (λ (t : ℕ). get_or (packed w n (bytes_for n (length xs)) xs) t 0) last ∙ ap (λ (t : ℕ). get_or (packed w n t xs) e.0 0) e.1.1.bytes)
+        e.1.1.spare
 
 -- ---- a record that was written
 
@@ -65,26 +44,26 @@ module _ {P D : Type 0} (k : Kind P D) (narrow : k.displacement_width ≤ 12) (m
   bs = record_bytes k ms cs ds
 
   fit : parts_fit k ms cs ds ≡ true
-  fit = passed (parts_fit k ms cs ds) PartLengths taken.parts_fit
+  fit = test_passed (parts_fit k ms cs ds) PartLengths taken.parts_fit
 
   short : Few ms cs ds
   short = few k narrow ms cs ds (parts_fit k ms cs ds) refl fit
 
   marks_small : Small 1 ms
-  marks_small i = omega (arith, none_over 1 0 ms (neither (over_fault 1 0 ms) (over_fault 3 0 cs) taken.values_fit).0 i)
+  marks_small i = omega (arith, none_over 1 0 ms (or_none (over_fault 1 0 ms) (over_fault 3 0 cs) taken.values_fit).0 i)
 
   codes_small : Small 2 cs
-  codes_small i = omega (arith, none_over 3 0 cs (neither (over_fault 1 0 ms) (over_fault 3 0 cs) taken.values_fit).1 i)
+  codes_small i = omega (arith, none_over 3 0 cs (or_none (over_fault 1 0 ms) (over_fault 3 0 cs) taken.values_fit).1 i)
 
   long : length bs ≡ record_size ms cs ds
   long = length_record k ms cs ds
 
   -- the fields of the head
   length_back : word bs 0 ≡ body_size ms cs ds
-  length_back = let f = short in word_back (body_size ms cs ds) (omega arith)
+  length_back = let f = short in from_be_bytes-to_be_bytes_4 (body_size ms cs ds) (omega arith)
 
   count_back : code_count bs ≡ length cs
-  count_back = let f = short in word_back (length cs) (omega arith)
+  count_back = let f = short in from_be_bytes-to_be_bytes_4 (length cs) (omega arith)
 
   -- the stretches
   marks_back : marks_of bs (length ms) ≡ packed_marks ms
@@ -147,7 +126,7 @@ module _ {P D : Type 0} (k : Kind P D) (narrow : k.displacement_width ≤ 12) (m
   spare_marks_pass =
       let last = 9 + bytes_for 8 (length ms) in
       let b = get_or bs last 0 in
-      cond-true (eqb (spare_of 1 8 (length ms) b) 0) None (Some (SpareMarkBit last)) (eq-eqb (spare_of 1 8 (length ms) b) 0 (mark_spare ms b last_mark))
+      cond-true (eqb (spare_of 1 8 (length ms) b) 0) None (Some (SpareMarkBit last)) (eq-eqb (spare_of 1 8 (length ms) b) 0 (spare_written 1 8 ms b (omega arith) last_mark))
 
   size_passes : size_fault k bs (length ms) ≡ None
   size_passes =
@@ -167,16 +146,16 @@ module _ {P D : Type 0} (k : Kind P D) (narrow : k.displacement_width ≤ 12) (m
   code_bits_pass =
       let last = 9 + bytes_for 8 (length ms) + bytes_for 4 (code_count bs) in
       let b = get_or bs last 0 in
-      let z : spare_of 2 4 (code_count bs) b ≡ 0 = ap (λ (t : ℕ). spare_of 2 4 t b) count_back ∙ code_spare cs b last_code in
+      let z : spare_of 2 4 (code_count bs) b ≡ 0 = ap (λ (t : ℕ). spare_of 2 4 t b) count_back ∙ spare_written 2 4 cs b (omega arith) last_code in
       cond-true (eqb (spare_of 2 4 (code_count bs) b) 0) None (Some (SpareCodeBit last)) (eq-eqb (spare_of 2 4 (code_count bs) b) 0 z)
 
   layout_passes : layout_fault k bs (length ms) ≡ None
   layout_passes =
       let m = length ms in
-      let marks = none_of_two (marks_fault bs m) (spare_mark_fault bs m) marks_pass spare_marks_pass in
-      let kinds = none_of_two (kind_fault k bs) _ kind_passes marks in
-      let head = none_of_two (length_fault bs) (or_else (version_fault bs) (or_else (kind_fault k bs) (or_else (marks_fault bs m) (spare_mark_fault bs m)))) length_passes kinds in
-      none_of_two (head_fault k bs m) _ head (none_of_two (size_fault k bs m) (code_bits_fault bs m) size_passes code_bits_pass)
+      let marks = none_or (marks_fault bs m) (spare_mark_fault bs m) marks_pass spare_marks_pass in
+      let kinds = none_or (kind_fault k bs) _ kind_passes marks in
+      let head = none_or (length_fault bs) (or_else (version_fault bs) (or_else (kind_fault k bs) (or_else (marks_fault bs m) (spare_mark_fault bs m)))) length_passes kinds in
+      none_or (head_fault k bs m) _ head (none_or (size_fault k bs m) (code_bits_fault bs m) size_passes code_bits_pass)
 
   pub reads_as : ReadsAs k bs ms cs ds
   reads_as = record {

@@ -1,32 +1,52 @@
--- The steps of the loops that look for the writer's refusals.
-use Rattle.std.proofs.Common.{◌≡◌, ℕ, ◌+◌, ◌<◌, ◌≤◌, cond, eqb, leb, List, length, get_or, drop, Some, None, ap, ◌∙◌}
-use Rattle.std.proofs.lemmas.List.{at_drop_more, at_drop_all}
-use Rattle.std.proofs.lemmas.Bool.{le-leb, lt-leb, eq-eqb, ne_eqb, cond-true, cond-false}
+-- What the writer's searches and counts find, in the words of its refusals.
+use Rattle.std.proofs.Common.{◌≡◌, ℕ, ◌+◌, ◌<◌, ◌≤◌, Bool, true, false, cond, not, eqb, leb, ltb, List, [], ◌∷◌, Some, None, Option, Ok, Err, refl, sym, ap, ◌∙◌, ⊎_elim, arith}
+use Rattle.std.specs.Option.{option_map}
+use Rattle.std.specs.List.{count_by, position, position_from}
+use Rattle.std.proofs.lemmas.Bool.{cases_lt, le-leb, lt-leb, lt-ltb, le-ltb, cond-true, cond-false}
+use Rattle.std.proofs.lemmas.Iterator.Adapters.{position_from-zero}
+use Rattle.std.proofs.lemmas.List.Recursion.{is_count_by}
+use Rattle.fault.specs.Faults.{checked, or_else}
+use Rattle.fault.specs.declared.fault.Fault.{Fault}
 use Rattle.fault.specs.declared.fault.Fault.TheVariants.{ValueTooLarge}
 use Rattle.record.specs.Refusals.{not_zero, over_fault}
 
-module _ (limit : ℕ) (xs : List ℕ) (i : ℕ) where
-  looked : i < length xs → over_fault limit i (drop i xs) ≡ cond (leb (get_or xs i 0) limit) (over_fault limit (i + 1) (drop (i + 1) xs)) (Some (ValueTooLarge i))
-  looked h = at_drop_more (over_fault limit i) xs i 0 h
+pub not_zero_counted : (xs : List ℕ) → not_zero xs ≡ count_by (λ (x : ℕ). not (eqb x 0)) xs
+not_zero_counted xs = is_count_by not_zero (λ (x : ℕ). not (eqb x 0)) refl (λ y ys. counted (eqb y 0) (not_zero ys)) xs
+  where
+    counted : (b : Bool) (n : ℕ) → cond b 0 1 + n ≡ cond (not b) (1 + n) n
+    counted true n = omega arith
+    counted false n = omega arith
 
-  pub over_passes : i < length xs → get_or xs i 0 ≤ limit → over_fault limit i (drop i xs) ≡ over_fault limit (i + 1) (drop (i + 1) xs)
-  over_passes h p = looked h ∙ cond-true (leb (get_or xs i 0) limit) _ _ (le-leb (get_or xs i 0) limit p)
+over_from : (limit i : ℕ) (xs : List ℕ) → over_fault limit i xs ≡ option_map ValueTooLarge (position_from (λ (x : ℕ). ltb limit x) i xs)
+over_from limit i [] = refl
+over_from limit i (x ∷ xs) = ⊎_elim over (within (over_from limit (i + 1) xs)) (cases_lt limit x)
+  where
+    over : limit < x → over_fault limit i (x ∷ xs) ≡ option_map ValueTooLarge (position_from (λ (y : ℕ). ltb limit y) i (x ∷ xs))
+    over h = cond-false (leb x limit) _ _ (lt-leb x limit h) ∙ sym (ap (option_map ValueTooLarge) (cond-true (ltb limit x) _ _ (lt-ltb limit x h)))
 
-  pub over_found : i < length xs → limit < get_or xs i 0 → over_fault limit i (drop i xs) ≡ Some (ValueTooLarge i)
-  over_found h p = looked h ∙ cond-false (leb (get_or xs i 0) limit) _ _ (lt-leb (get_or xs i 0) limit p)
+    within : over_fault limit (i + 1) xs ≡ option_map ValueTooLarge (position_from (λ (y : ℕ). ltb limit y) (i + 1) xs) → x ≤ limit → over_fault limit i (x ∷ xs) ≡ option_map ValueTooLarge (position_from (λ (y : ℕ). ltb limit y) i (x ∷ xs))
+    within rest h = cond-true (leb x limit) _ _ (le-leb x limit h) ∙ rest ∙ sym (ap (option_map ValueTooLarge) (cond-false (ltb limit x) _ _ (le-ltb limit x h)))
 
-  pub over_ends : length xs ≤ i → over_fault limit i (drop i xs) ≡ None
-  over_ends h = at_drop_all (over_fault limit i) xs i h
+-- the first number over the limit is the fault
+pub over_first : (limit : ℕ) (xs : List ℕ) → over_fault limit 0 xs ≡ option_map ValueTooLarge (position (λ (x : ℕ). ltb limit x) xs)
+over_first limit xs = over_from limit 0 xs ∙ ap (option_map ValueTooLarge) (sym (position_from-zero (λ (x : ℕ). ltb limit x) xs))
 
-module _ (xs : List ℕ) (i : ℕ) where
-  counted : i < length xs → not_zero (drop i xs) ≡ cond (eqb (get_or xs i 0) 0) 0 1 + not_zero (drop (i + 1) xs)
-  counted h = at_drop_more not_zero xs i 0 h
+-- a check that refuses is the first fault of it and of what follows it
+pub refuses_first : (a b : Option Fault) (f : Fault) → checked a ≡ Err f → checked (or_else a b) ≡ Err f
+refuses_first None b f e = cc
+refuses_first (Some g) b f e = e
 
-  pub zero_counted : i < length xs → get_or xs i 0 ≡ 0 → not_zero (drop i xs) ≡ 0 + not_zero (drop (i + 1) xs)
-  zero_counted h e = counted h ∙ ap (λ (t : ℕ). t + not_zero (drop (i + 1) xs)) (cond-true (eqb (get_or xs i 0) 0) 0 1 (eq-eqb (get_or xs i 0) 0 e))
+-- after a check that lets pass, the first fault is that of what follows it
+pub refuses_later : (a b : Option Fault) (u : Unit {0}) → checked a ≡ Ok u → checked (or_else a b) ≡ checked b
+refuses_later None b u e = refl
+refuses_later (Some f) b u e = cc
 
-  pub other_counted : i < length xs → (get_or xs i 0 ≡ 0 → ⊥) → not_zero (drop i xs) ≡ 1 + not_zero (drop (i + 1) xs)
-  other_counted h e = counted h ∙ ap (λ (t : ℕ). t + not_zero (drop (i + 1) xs)) (cond-false (eqb (get_or xs i 0) 0) 0 1 (ne_eqb (get_or xs i 0) 0 e))
+-- a check that lets pass finds nothing
+pub passes : (a : Option Fault) (u : Unit {0}) → checked a ≡ Ok u → a ≡ None
+passes None u e = refl
+passes (Some f) u e = cc
 
-  pub none_counted : length xs ≤ i → not_zero (drop i xs) ≡ 0
-  none_counted h = at_drop_all not_zero xs i h
+-- a check that refuses finds what it tells
+pub found : (a : Option Fault) (f : Fault) → checked a ≡ Err f → a ≡ Some f
+found None f e = cc
+found (Some g) f e = cc

@@ -2,12 +2,13 @@
 use Rattle.std.proofs.Common.{◌≡◌, ℕ, zero, suc, ◌+◌, ◌-◌, ◌*◌, ◌/◌, ◌%◌, ◌^◌, ◌<◌, ◌≤◌, List, map, length, get_or, drop, sym, ap, ◌∙◌, ⊎_elim, mod-eq_of_lt, mul_comm, add_comm, mul-zero, zero-add, mul-suc, arith}
 use native.Mathlib.Nat.{zero-div, mod-one}
 use Rattle.std.specs.List.{range_with_len}
-use Rattle.std.proofs.lemmas.Nat.{mod-pow-add, field_of, div-mul-add, mod-mul-add}
+use Rattle.std.proofs.lemmas.Nat.{mod-pow-add, field_of, div-mul-add, mod-mul-add, mul-le}
 use Rattle.std.proofs.lemmas.List.FromFn.{length-map-range_with_len, get_or-map-range_with_len}
 use Rattle.std.proofs.lemmas.List.{ext_get_or, get_or-drop, get_or_past}
 use Rattle.std.proofs.lemmas.Bool.{cases_lt}
-use Rattle.record.specs.Packing.{bytes_for, number_in, spare_of, mark_in, code_in, gathered, packed}
+use Rattle.record.specs.Packing.{bytes_for, number_in, spare_of, gathered, packed}
 use Rattle.record.proofs.Writing.{length_packed}
+use Rattle.record.proofs.Ending.{ends}
 use Rattle.record.proofs.Unpacking.{get_or_packed}
 
 -- ---- one byte
@@ -71,22 +72,30 @@ module _ (w n m k : ℕ) (xs : List ℕ) (pos : 0 < n) (long : length xs ≡ k) 
       let l : q < k = omega (arith, length_packed w n k (numbers w n m xs)) in
       get_or_packed w n k (numbers w n m xs) q l ∙ gathered_digits w n (get_or xs q 0) (drop (n * q) (numbers w n m xs)) (digits q l) ∙ mod-eq_of_lt (bytes q))
 
--- ---- marks and codes
+-- ---- bytes with no spare bit set
 
-pub marks_repacked : (m : ℕ) (xs : List ℕ) → length xs ≡ bytes_for 8 m → ((i : ℕ) → get_or xs i 0 < 256) → spare_of 1 8 m (get_or xs (bytes_for 8 m - 1) 0) ≡ 0 → packed 1 8 (bytes_for 8 m) (map (mark_in xs) (range_with_len 0 m)) ≡ xs
-marks_repacked m xs long bytes low = repacked 1 8 m (bytes_for 8 m) xs (omega arith) long bytes spare
+pub numbers_repacked : (w n m : ℕ) (xs : List ℕ) → 0 < n → length xs ≡ bytes_for n m → ((i : ℕ) → get_or xs i 0 < 2 ^ (w * n)) → spare_of w n m (get_or xs (bytes_for n m - 1) 0) ≡ 0 → packed w n (bytes_for n m) (numbers w n m xs) ≡ xs
+numbers_repacked w n m xs pos long bytes low = repacked w n m (bytes_for n m) xs pos long bytes (λ q r lq lr l. ⊎_elim (behind q r lq lr l) (λ h. absurd (no_byte q lq h)) (cases_lt 0 m))
   where
-    spare : (q r : ℕ) → q < bytes_for 8 m → r < 8 → m ≤ 8 * q + r → get_or xs q 0 / 2 ^ (1 * (8 - 1 - r)) % 2 ^ 1 ≡ 0
-    spare q r lq lr l =
-        let last : bytes_for 8 m - 1 ≡ q = omega arith in
-        let z : get_or xs q 0 % 2 ^ (1 * ((8 - m % 8) % 8)) ≡ 0 = ap (λ (t : ℕ). spare_of 1 8 m (get_or xs t 0)) (sym last) ∙ low in
-        low_number 1 (get_or xs q 0) (1 * ((8 - m % 8) % 8)) (1 * (8 - 1 - r)) z (omega arith)
+    no_byte : (q : ℕ) → q < bytes_for n m → m ≤ 0 → ⊥
+    no_byte q lq h =
+        let e : m + (n - 1) ≡ 0 * n + (n - 1) = omega arith in
+        let none : bytes_for n m ≡ 0 = ap (λ (t : ℕ). t / n) e ∙ div-mul-add 0 n (n - 1) (omega arith) in
+        omega arith
 
-pub codes_repacked : (m : ℕ) (xs : List ℕ) → length xs ≡ bytes_for 4 m → ((i : ℕ) → get_or xs i 0 < 256) → spare_of 2 4 m (get_or xs (bytes_for 4 m - 1) 0) ≡ 0 → packed 2 4 (bytes_for 4 m) (map (code_in xs) (range_with_len 0 m)) ≡ xs
-codes_repacked m xs long bytes low = repacked 2 4 m (bytes_for 4 m) xs (omega arith) long bytes spare
-  where
-    spare : (q r : ℕ) → q < bytes_for 4 m → r < 4 → m ≤ 4 * q + r → get_or xs q 0 / 2 ^ (2 * (4 - 1 - r)) % 2 ^ 2 ≡ 0
-    spare q r lq lr l =
-        let last : bytes_for 4 m - 1 ≡ q = omega arith in
-        let z : get_or xs q 0 % 2 ^ (2 * ((4 - m % 4) % 4)) ≡ 0 = ap (λ (t : ℕ). spare_of 2 4 m (get_or xs t 0)) (sym last) ∙ low in
-        low_number 2 (get_or xs q 0) (2 * ((4 - m % 4) % 4)) (2 * (4 - 1 - r)) z (omega arith)
+    -- a place behind the numbers is in the last byte
+    behind : (q r : ℕ) → q < bytes_for n m → r < n → m ≤ n * q + r → 0 < m → get_or xs q 0 / 2 ^ (w * (n - 1 - r)) % 2 ^ w ≡ 0
+    behind q r lq lr l h =
+        let p = ends n m pos h in
+        let k = p.0 in
+        let j = p.1.0 in
+        let e = p.1.1 in
+        let full : k ≤ q = ⊎_elim (λ (less : q < k). absurd (too_far q r k j (mul-le n (suc q) n k (omega arith) less) lr l e.numbers e.some)) (λ (g : k ≤ q). g) (cases_lt q k) in
+        let last : bytes_for n m - 1 ≡ q = omega (arith, e.bytes) in
+        let same : n * q ≡ n * k = ap (λ (t : ℕ). n * t) (omega (arith, e.bytes)) in
+        let z : get_or xs q 0 % 2 ^ (w * (n - j)) ≡ 0 = ap (λ (t : ℕ). get_or xs q 0 % 2 ^ (w * t)) (sym e.spare) ∙ ap (λ (t : ℕ). spare_of w n m (get_or xs t 0)) (sym last) ∙ low in
+        let room : w * suc (n - 1 - r) ≤ w * (n - j) = mul-le w (suc (n - 1 - r)) w (n - j) (omega arith) (omega (arith, e.numbers, same)) in
+        low_number w (get_or xs q 0) (w * (n - j)) (w * (n - 1 - r)) z (omega (arith, mul-suc w (n - 1 - r), room))
+      where
+        too_far : (q r k j : ℕ) → n * suc q ≤ n * k → r < n → m ≤ n * q + r → m ≡ n * k + j → 0 < j → ⊥
+        too_far q r k j up lr l e some = omega (arith, mul-suc n q)

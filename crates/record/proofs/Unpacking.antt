@@ -1,23 +1,25 @@
 -- Numbers that were packed are read again, and leave the spare bits 0.
-use Rattle.std.proofs.Common.{◌≡◌, ℕ, zero, suc, ◌+◌, ◌-◌, ◌*◌, ◌/◌, ◌%◌, ◌^◌, ◌<◌, ◌≤◌, List, [], ◌∷◌, ◌++◌, length, get_or, take, drop, sym, refl, ap, ◌∙◌, subst, mod-eq_of_lt, mul_assoc, mul_comm, add_comm, mul-suc, mul-add, add-one, arith}
+use Rattle.std.proofs.Common.{◌≡◌, ℕ, zero, suc, ◌+◌, ◌-◌, ◌*◌, ◌/◌, ◌%◌, ◌^◌, ◌<◌, ◌≤◌, cond, eqb, List, [], ◌∷◌, ◌++◌, length, get_or, take, drop, sym, refl, ap, ◌∙◌, subst, add-zero, zero-add, mod-eq_of_lt, mul_assoc, mul_comm, add_comm, mul-suc, mul-add, add-one, arith}
 use native.Mathlib.Nat.{mul-add-div_right, mul-add-mod_self_right, zero-mod}
 use Rattle.std.proofs.lemmas.Nat.{pow_pos, pow-add, div-mul-add, mul-add-lt, div-add-mod', div_below, mod_below}
 use Rattle.std.proofs.lemmas.List.{get_or-drop, drop-drop, take_more, length-drop}
+use Rattle.std.specs.List.{count_by, range_with_len}
+use Rattle.std.proofs.lemmas.List.Sums.{sum_by-cons}
 use Rattle.record.specs.Packing.{number_in, mark_in, gathered, packed, Small, marks_set}
 use Rattle.record.specs.Refusals.{not_zero}
 
 -- ---- one byte
 
-pow_more : (w m : ℕ) → 2 ^ (w * suc m) ≡ 2 ^ w * 2 ^ (w * m)
+pub pow_more : (w m : ℕ) → 2 ^ (w * suc m) ≡ 2 ^ w * 2 ^ (w * m)
 pow_more w m = ap (λ (e : ℕ). 2 ^ e) (mul-suc w m ∙ add_comm (w * m) w) ∙ pow-add 2 w (w * m)
 
 pow_split : (w p r m : ℕ) → p + r ≡ m → 2 ^ (w * m) ≡ 2 ^ (w * r) * 2 ^ (w * p)
 pow_split w p r m e = ap (λ (t : ℕ). 2 ^ (w * t)) (sym e ∙ add_comm p r) ∙ ap (λ (t : ℕ). 2 ^ t) (mul-add w r p) ∙ pow-add 2 (w * r) (w * p)
 
-small_drop : (w i : ℕ) (xs : List ℕ) → Small w xs → Small w (drop i xs)
+pub small_drop : (w i : ℕ) (xs : List ℕ) → Small w xs → Small w (drop i xs)
 small_drop w i xs h k = subst (λ (t : ℕ). t < 2 ^ w) (sym (get_or-drop i xs k 0)) (h (i + k))
 
-gathered_lt : (w m : ℕ) (xs : List ℕ) → Small w xs → gathered w m xs < 2 ^ (w * m)
+pub gathered_lt : (w m : ℕ) (xs : List ℕ) → Small w xs → gathered w m xs < 2 ^ (w * m)
 gathered_lt w zero xs h = pow_pos (w * zero)
 gathered_lt w (suc m) xs h = subst (λ (t : ℕ). gathered w (suc m) xs < t) (sym (pow_more w m)) (below (get_or xs 0 0) (2 ^ w) (2 ^ (w * m)) (gathered w m (drop 1 xs)) (h 0) (gathered_lt w m (drop 1 xs) (small_drop w 1 xs h)))
   where
@@ -119,3 +121,21 @@ marks_counted bs ms (suc j) h same l =
     let a : not_zero (take (suc j) ms) ≡ not_zero (take j ms) + get_or ms j 0 =
     ap not_zero t ∙ not_zero_append (take j ms) (get_or ms j 0 ∷ []) ∙ ap (λ (i : ℕ). not_zero (take j ms) + i) (one_or_none (get_or ms j 0) (h j)) in
     omega (arith, marks_counted bs ms j h same (omega arith), same j lt, a)
+
+one_if_set : (x : ℕ) → x < 2 → cond (eqb x 1) 1 0 ≡ x
+one_if_set zero h = refl
+one_if_set (suc zero) h = refl
+one_if_set (suc (suc x)) h = absurd (omega arith)
+
+-- the marks that are set are those that a filter passes
+marks_after : (bs : List ℕ) (a n : ℕ) → marks_set bs a + count_by (λ (e : ℕ). eqb (mark_in bs e) 1) (range_with_len a n) ≡ marks_set bs (a + n)
+marks_after bs a zero = add-zero (marks_set bs a) ∙ ap (marks_set bs) (sym (add-zero a))
+marks_after bs a (suc n) =
+    let one : cond (eqb (mark_in bs a) 1) 1 0 ≡ mark_in bs a = one_if_set (mark_in bs a) (omega arith) in
+    let first : count_by (λ (e : ℕ). eqb (mark_in bs e) 1) (range_with_len a (suc n)) ≡ cond (eqb (mark_in bs a) 1) 1 0 + count_by (λ (e : ℕ). eqb (mark_in bs e) 1) (range_with_len (a + 1) n) = sum_by-cons (λ (e : ℕ). cond (eqb (mark_in bs e) 1) 1 0) a (range_with_len (a + 1) n) in
+    let more : marks_set bs (a + 1) ≡ marks_set bs a + mark_in bs a = ap (marks_set bs) (add-one a) in
+    let last : a + 1 + n ≡ a + suc n = omega arith in
+    omega (arith, one, first, more, marks_after bs (a + 1) n, ap (marks_set bs) last)
+
+pub marks_filtered : (bs : List ℕ) (m : ℕ) → count_by (λ (e : ℕ). eqb (mark_in bs e) 1) (range_with_len 0 m) ≡ marks_set bs m
+marks_filtered bs m = omega (arith, marks_after bs 0 m, ap (marks_set bs) (zero-add m))

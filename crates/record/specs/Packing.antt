@@ -1,5 +1,10 @@
 -- Numbers of w bits, n to a byte, from the top of each byte: marks have w = 1 and n = 8, codes have w = 2 and n = 4.
-use Rattle.std.specs.Prelude.{ℕ, zero, suc, ◌+◌, ◌-◌, ◌*◌, ◌/◌, ◌%◌, ◌^◌, ◌<◌, Bool, cond, List, [], ◌∷◌, length, drop, Some, None, Option, ◌==◌, nat_lt, slice_index}
+use Rattle.std.specs.Prelude.{◌≡◌, ℕ, zero, suc, ◌+◌, ◌-◌, ◌*◌, ◌/◌, ◌%◌, ◌^◌, ◌<◌, Bool, cond, List, [], ◌∷◌, length, drop, Some, None, Option, ◌==◌, nat_lt, slice_index}
+
+-- numbers of w bits fill a byte, n of them, and not one alone
+pub record Fills (w n : ℕ) : Type 0 where
+  pub eight : w * n ≡ 8
+  pub several : 1 < n
 
 -- how many bytes hold m numbers
 abbrev pub bytes_for : ℕ → ℕ → ℕ

@@ -1,66 +1,68 @@
-// Handing out the stretches of a record.
-ghost use Rattle.std.specs.Prelude.{◌≡◌};
-ghost use Rattle.std.specs.Option.{option_map};
-ghost use Rattle.record.specs.Checks.{layout_fault};
-ghost use Rattle.record.specs.Stretches.{Opens, meaning, piece_at, turn_after, waiting};
-ghost use Rattle.std.specs.Iterator.{at_most};
-
-use crate::checks::layout_fault;
-use crate::parts::{codes_from, codes_of, displacements_from, displacements_of, marks_of};
-use crate::stretch::{Layout, Stretch, Turn};
+// Handing out the stretches of a record's bytes.
+use crate::record::Record;
 use fault::Fault;
 use place::Place;
+use std::array::IntoIter;
+use std::marker::Model;
+
+// A part of a record's own bytes, with its offset in the record.
+#[derive(Clone, Copy, PartialEq, Eq, Debug)]
+pub enum Stretch<'a> {
+    Marks(&'a [u8], u32),
+    Codes(&'a [u8], u32),
+    Displacements(&'a [u8], u32),
+}
+
+// Hands out the stretches of a record one at a time. Contracts see the pieces that are still to come.
+#[derive(Drop)]
+pub struct Layout<'a> {
+    stretches: IntoIter<Stretch<'a>, 3>,
+}
+
+impl<'a> Model for Layout<'a> {
+    ghost use Rattle.std.specs.Prelude.{List, map};
+    ghost use Rattle.std.specs.Array.Iter.{array_into_iter_items};
+    ghost use Rattle.record.specs.Stretches.{Piece, meaning};
+
+    ghost Value = { List Piece };
+
+    ghost view = { λ l. map meaning (array_into_iter_items l.stretches) };
+}
 
 impl<'a> Layout<'a> {
+    ghost use Rattle.record.specs.Checks.{layout_fault};
+    ghost use Rattle.record.specs.Stretches.{Opens};
+
     // Opens a record of a kind of place for a number of edges.
     pub fn open<P: Place>(bytes: &'a [u8], edges: u32) -> Result<Layout<'a>, Fault>
         ensures { Opens result (layout_fault P.Place.kind bytes.now edges) bytes.now edges }
     {
-        match layout_fault::<P>(bytes, edges) {
-            Some(fault) => Err(fault),
-            None => Ok(Layout {
-                bytes,
-                edges,
-                turn: Turn::First,
-            }),
-        }
-    }
-
-    // The next stretch: the marks, the codes, the displacements, then no more.
-    pub fn hand(&mut self) -> Option<Stretch<'a>>
-        ensures gives { option_map meaning result ≡ piece_at self.old.bytes.now self.old.edges self.old.turn }
-        ensures turns { self.new.turn ≡ turn_after self.old.turn }
-        ensures keeps { (self.new.bytes.now ≡ self.old.bytes.now) × (self.new.edges ≡ self.old.edges) }
-    {
-        let bytes = self.bytes;
-        let edges = self.edges;
-        match self.turn {
-            Turn::First => {
-                self.turn = Turn::Second;
-                Some(Stretch::Marks(marks_of(bytes, edges), 10))
-            }
-            Turn::Second => {
-                self.turn = Turn::Third;
-                Some(Stretch::Codes(codes_of(bytes, edges), codes_from(edges) as u32))
-            }
-            Turn::Third => {
-                self.turn = Turn::Over;
-                let offset = displacements_from(bytes, edges) as u32;
-                Some(Stretch::Displacements(displacements_of(bytes, edges), offset))
-            }
-            Turn::Over => None,
-        }
+        let record = Record { bytes, edges };
+        record.check_layout::<P>()?;
+        let stretches = [
+            Stretch::Marks(record.marks(), 10),
+            Stretch::Codes(record.codes(), record.codes_from() as u32),
+            Stretch::Displacements(record.displacements(), record.displacements_from() as u32),
+        ];
+        Ok(Layout {
+            stretches: stretches.into_iter(),
+        })
     }
 }
 
 impl<'a> Iterator for Layout<'a> {
+    ghost use Rattle.std.specs.Prelude.{length};
+    ghost use Rattle.std.specs.Iterator.{at_most};
+    ghost use Rattle.record.specs.Stretches.{HandsOut};
+
     type Item = Stretch<'a>;
 
-    ghost next_gives = { λ s r t. (option_map meaning r ≡ piece_at s.bytes.now s.edges s.turn) × (t.turn ≡ turn_after s.turn) × (t.bytes.now ≡ s.bytes.now) × (t.edges ≡ s.edges) };
+    ghost next_gives = { HandsOut };
 
-    ghost remaining = { λ s. at_most (waiting s.turn) };
+    ghost remaining = { λ s. at_most (length s) };
 
+    // The marks, the codes, the displacements, then no more.
     fn next(&mut self) -> Option<Stretch<'a>> {
-        self.hand()
+        self.stretches.next()
     }
 }

@@ -37,30 +37,9 @@ const fn changed(at: usize, byte: u8, number: u8, spot: u32) -> Case {
 }
 
 fn tells(bytes: &[u8], edges: u32, number: u8, spot: u32) -> bool {
-    match layout_fault::<Grid>(bytes, edges) {
-        Some(fault) => fault.number() == number && fault.spot() == spot,
-        None => number == 0,
-    }
-}
-
-fn is_marks(got: Option<Stretch<'_>>, bytes: &[u8], offset: u32) -> bool {
-    match got {
-        Some(Stretch::Marks(part, at)) => part == bytes && at == offset,
-        _ => false,
-    }
-}
-
-fn is_codes(got: Option<Stretch<'_>>, bytes: &[u8], offset: u32) -> bool {
-    match got {
-        Some(Stretch::Codes(part, at)) => part == bytes && at == offset,
-        _ => false,
-    }
-}
-
-fn is_displacements(got: Option<Stretch<'_>>, bytes: &[u8], offset: u32) -> bool {
-    match got {
-        Some(Stretch::Displacements(part, at)) => part == bytes && at == offset,
-        _ => false,
+    match (Record { bytes, edges }).check_layout::<Grid>() {
+        Ok(()) => number == 0,
+        Err(fault) => fault.number() == number && fault.spot() == spot,
     }
 }
 
@@ -75,11 +54,11 @@ fn hands_out(
     let Ok(mut layout) = Layout::open::<Grid>(bytes, edges) else {
         return false;
     };
-    is_marks(layout.hand(), marks, 10)
-        && is_codes(layout.hand(), codes.0, codes.1)
-        && is_displacements(layout.hand(), displacements.0, displacements.1)
-        && layout.hand().is_none()
-        && layout.hand().is_none()
+    layout.next() == Some(Stretch::Marks(marks, 10))
+        && layout.next() == Some(Stretch::Codes(codes.0, codes.1))
+        && layout.next() == Some(Stretch::Displacements(displacements.0, displacements.1))
+        && layout.next().is_none()
+        && layout.next().is_none()
 }
 
 #[test]

@@ -8,28 +8,23 @@ const MARKS: [u8; 6] = [1, 0, 0, 1, 0, 0];
 const CODES: [u8; 2] = [2, 0];
 
 fn write(marks: &[u8], codes: &[u8], displacements: &[u8], out: &mut [u8]) -> Result<usize, Fault> {
-    write_record::<Grid>(marks, codes, displacements, out)
+    let parts = Parts {
+        marks,
+        codes,
+        displacements,
+    };
+    parts.write::<Grid>(out)
 }
 
 // Whether the writer refused with this number and spot.
 fn refused(answer: Result<usize, Fault>, number: u8, spot: u32) -> bool {
-    match answer {
-        Ok(_) => false,
-        Err(fault) => fault.number() == number && fault.spot() == spot,
-    }
-}
-
-fn wrote(answer: Result<usize, Fault>, size: usize) -> bool {
-    match answer {
-        Ok(written) => written == size,
-        Err(_) => false,
-    }
+    answer.is_err_and(|fault| fault.number() == number && fault.spot() == spot)
 }
 
 #[test]
 fn writes_the_block(rt: HostRuntime) {
     let mut out = [7u8; 38];
-    assert!(rt; wrote(write(&MARKS, &CODES, &[5; 24], &mut out), 36));
+    assert_eq!(rt; write(&MARKS, &CODES, &[5; 24], &mut out), Ok(36));
     assert!(rt; out[..12] == [0, 0, 0, 32, 1, 1, 0, 0, 0, 2, 0x90, 0x80]);
     assert!(rt; out[12..36] == [5; 24]);
     assert!(rt; out[36..] == [7, 7]);
@@ -53,7 +48,7 @@ fn refuses_values(rt: HostRuntime) {
         )
     );
     assert!(rt; refused(write(&MARKS, &[3, 4], &[0; 24], &mut out), 7, 1));
-    assert!(rt; wrote(write(&MARKS, &[3, 3], &[0; 24], &mut out), 36));
+    assert_eq!(rt; write(&MARKS, &[3, 3], &[0; 24], &mut out), Ok(36));
     assert!(rt; refused(write(&MARKS, &[3, 4], &[0; 24], &mut []), 7, 1));
 }
 
@@ -71,5 +66,8 @@ fn refuses_too_many(rt: HostRuntime) {
     let mut out = [0u8; 14_346];
     assert!(rt; refused(write(&[0; 49_153], &[], &[], &mut out), 8, 0));
     assert!(rt; refused(write(&[], &[0; 32_769], &[], &mut out), 8, 0));
-    assert!(rt; wrote(write(&[0; 49_152], &[0; 32_768], &[], &mut out), 14_346));
+    assert_eq!(rt;
+        write(&[0; 49_152], &[0; 32_768], &[], &mut out),
+        Ok(14_346)
+    );
 }
