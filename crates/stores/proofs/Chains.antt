@@ -25,6 +25,22 @@ walk_chain (suc n) f (suc h) (i ∷ is) c l =
     let r = walk_chain n f (f i) is c.1 (omega arith) in
     rw e (ap (λ z. i ∷ z) r.0, r.1)
 
+-- a walk that ends goes no further with more links
+pub walk_longer : (n m : ℕ) (f : ℕ → ℕ) (h : ℕ) → left_over n f h ≡ 0 → n ≤ m → (walk m f h ≡ walk n f h) × (left_over m f h ≡ 0)
+walk_longer n m f zero e l = (refl, refl)
+walk_longer zero m f (suc i) e l = absurd (omega arith)
+walk_longer (suc n) zero f (suc i) e l = absurd (omega arith)
+walk_longer (suc n) (suc m) f (suc i) e l = let r = walk_longer n m f (f i) e (omega arith) in (ap (λ z. i ∷ z) r.0, r.1)
+
+-- one turn along a walk that ends, from the link h past corner i to the next link
+pub walk_turn : (n : ℕ) (f : ℕ → ℕ) (h i next : ℕ) → left_over n f h ≡ 0 → h ≡ suc i → next ≡ f i → (walk n f h ≡ i ∷ walk n f next) × (left_over n f next ≡ 0)
+walk_turn n f zero i next e d q = absurd (omega arith)
+walk_turn zero f (suc h) i next e d q = absurd (omega arith)
+walk_turn (suc n) f (suc h) i next e d q =
+    let p : h ≡ i = omega arith in
+    let r = walk_longer n (suc n) f (f h) e (omega arith) in
+    rw (q, ← p) (ap (λ z. h ∷ z) (sym r.0), r.1)
+
 -- a chain depends on the links of its corners alone
 pub chain_kept : (f g : ℕ → ℕ) (h : ℕ) (is : List ℕ) → ((i : ℕ) → 0 < times i is → g i ≡ f i) → Chain f h is → Chain g h is
 chain_kept f g h [] same c = c
@@ -38,8 +54,3 @@ chain_first f h [] c n = absurd (n c)
 chain_first f h (i ∷ js) c n =
     let e : i ≡ h - 1 = omega arith in
     (js, ap (λ z. z ∷ js) e, rw (sym e) c.1)
-
--- a chain that has ended is empty
-pub chain_ended : (f : ℕ → ℕ) (h : ℕ) (is : List ℕ) → Chain f h is → h ≡ 0 → is ≡ []
-chain_ended f h [] c e = refl
-chain_ended f h (i ∷ is) c e = absurd (omega arith)

@@ -1,8 +1,8 @@
 -- What a write to a record does to the corners and to the first links.
-use Rattle.std.proofs.Common.{◌≡◌, ℕ, zero, suc, ◌+◌, ◌*◌, ◌/◌, ◌%◌, ◌<◌, Bool, true, false, cond, eqb, List, [], ◌∷◌, map, length, get_or, take, set, sym, refl, ap, ◌∙◌, ⊎_elim, arith}
+use Rattle.std.proofs.Common.{◌≡◌, ℕ, zero, suc, ◌+◌, ◌*◌, ◌/◌, ◌%◌, ◌<◌, List, [], ◌∷◌, map, length, get_or, take, set, sym, refl, ap, ◌∙◌, ⊎_elim, arith}
 use Rattle.std.proofs.lemmas.List.{get_or-set_same, get_or-set_other, set-set, take-map}
 use Rattle.std.proofs.lemmas.Bool.{cases_eq}
-use Rattle.mesh.specs.Triangles.{tri}
+use Rattle.std.proofs.lemmas.Bool.Decides.{nat_tests}
 use Rattle.mesh.specs.Growth.{with_corner}
 use Rattle.stores.specs.declared.chain_record.ChainCorner.{ChainCorner}
 use Rattle.stores.specs.declared.chain_record.ChainTriangle.{ChainTriangle}
@@ -20,23 +20,10 @@ pub front_like : {X Y : Type 0} (f : X → Y) (n : ℕ) (xs : List X) (k : ℕ) 
 front_like f n xs k x d e = sym (take-map f n (set xs k x)) ∙ ap (take n) (map_like f xs k x d e) ∙ take-map f n xs
 
 corner_in_same : (r : ChainTriangle) (k : ℕ) (x : ChainCorner) → corner_in (with_link r k x) k ≡ x
-corner_in_same r k x = go (eqb k 0) (eqb k 1)
-  where
-    go : (p q : Bool) → cond p (cond p (chain_triangle x r.b r.c) (cond q (chain_triangle r.a x r.c) (chain_triangle r.a r.b x))).a (cond q (cond p (chain_triangle x r.b r.c) (cond q (chain_triangle r.a x r.c) (chain_triangle r.a r.b x))).b (cond p (chain_triangle x r.b r.c) (cond q (chain_triangle r.a x r.c) (chain_triangle r.a r.b x))).c) ≡ x
-    go true q = refl
-    go false true = refl
-    go false false = refl
+corner_in_same r k x = grind (arith, nat_tests)
 
 corner_in_other : (r : ChainTriangle) (k j : ℕ) (x : ChainCorner) → k < 3 → j < 3 → (j ≡ k → ⊥) → corner_in (with_link r k x) j ≡ corner_in r j
-corner_in_other r zero zero x h l n = absurd (n refl)
-corner_in_other r zero (suc zero) x h l n = refl
-corner_in_other r zero (suc (suc j)) x h l n = let e : j ≡ 0 = omega arith in rw e
-corner_in_other r (suc zero) zero x h l n = refl
-corner_in_other r (suc zero) (suc zero) x h l n = absurd (n refl)
-corner_in_other r (suc zero) (suc (suc j)) x h l n = let e : j ≡ 0 = omega arith in rw e
-corner_in_other r (suc (suc k)) zero x h l n = let e : k ≡ 0 = omega arith in rw e
-corner_in_other r (suc (suc k)) (suc zero) x h l n = let e : k ≡ 0 = omega arith in rw e
-corner_in_other r (suc (suc k)) (suc (suc j)) x h l n = absurd (n (omega arith))
+corner_in_other r k j x h l n = grind (arith, nat_tests)
 
 pub corner_same : (rs : List ChainTriangle) (i : ℕ) (x : ChainCorner) → i / 3 < length rs → corner_at (put_corner rs i x) i ≡ x
 corner_same rs i x h =
@@ -63,20 +50,10 @@ first_other vs v h u n = ap (λ z. z.first) (get_or-set_other vs v u (with_first
 
 -- the triangle of a record with another corner
 pub corners_with : (r : ChainTriangle) (k v y : ℕ) → corners_in (with_link r k (chain_corner v y)) ≡ with_corner k v (corners_in r)
-corners_with r k v y = go (eqb k 0) (eqb k 1)
-  where
-    go : (p q : Bool) → corners_in (cond p (chain_triangle (chain_corner v y) r.b r.c) (cond q (chain_triangle r.a (chain_corner v y) r.c) (chain_triangle r.a r.b (chain_corner v y)))) ≡ cond p (tri v r.b.vertex r.c.vertex) (cond q (tri r.a.vertex v r.c.vertex) (tri r.a.vertex r.b.vertex v))
-    go true q = refl
-    go false true = refl
-    go false false = refl
+corners_with r k v y = grind (arith, nat_tests)
 
 corners_kept : (r : ChainTriangle) (k y : ℕ) → corners_in (with_link r k (chain_corner (corner_in r k).vertex y)) ≡ corners_in r
-corners_kept r k y = corners_with r k (corner_in r k).vertex y ∙ go (eqb k 0) (eqb k 1)
-  where
-    go : (p q : Bool) → cond p (tri (cond p r.a (cond q r.b r.c)).vertex r.b.vertex r.c.vertex) (cond q (tri r.a.vertex (cond p r.a (cond q r.b r.c)).vertex r.c.vertex) (tri r.a.vertex r.b.vertex (cond p r.a (cond q r.b r.c)).vertex)) ≡ corners_in r
-    go true q = refl
-    go false true = refl
-    go false false = refl
+corners_kept r k y = grind (arith, nat_tests)
 
 -- another link leaves the triangles as they are
 pub triangles_kept : (n : ℕ) (rs : List ChainTriangle) (p y : ℕ) → front corners_in n (put_corner rs p (chain_corner (vertex_at rs p) y)) ≡ front corners_in n rs
@@ -88,10 +65,7 @@ vertices_kept f fh m vs v h = front_like f m vs v (with_first (get_or vs v no_ve
 
 -- corner k of triangle t, written
 pub put_at : (rs : List ChainTriangle) (t k : ℕ) (x : ChainCorner) → k < 3 → put_corner rs (3 * t + k) x ≡ set rs t (with_link (get_or rs t no_triangle) k x)
-put_at rs t k x l =
-    let a : (3 * t + k) / 3 ≡ t = omega arith in
-    let b : (3 * t + k) % 3 ≡ k = omega arith in
-    ap (λ z. set rs z (with_link (get_or rs z no_triangle) ((3 * t + k) % 3) x)) a ∙ ap (λ z. set rs t (with_link (get_or rs t no_triangle) z x)) b
+put_at rs t k x l = grind (arith, nat_tests)
 
 put_again : (rs : List ChainTriangle) (t k : ℕ) (r : ChainTriangle) (x : ChainCorner) → t < length rs → k < 3 → put_corner (set rs t r) (3 * t + k) x ≡ set rs t (with_link r k x)
 put_again rs t k r x h l =

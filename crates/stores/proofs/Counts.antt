@@ -1,28 +1,26 @@
 -- How often numbers stand in a list.
-use Rattle.std.proofs.Common.{◌≡◌, ℕ, zero, suc, ◌+◌, ◌<◌, ◌≤◌, Bool, true, false, cond, ◌&&◌, eqb, ltb, List, [], ◌∷◌, length, sym, refl, ap, ◌∙◌, ⊎_elim, arith}
-use Rattle.std.proofs.lemmas.Bool.{cases_eq, cases_lt, eq-eqb, ne_eqb, le-ltb}
+use Rattle.std.proofs.Common.{◌≡◌, ℕ, zero, suc, ◌+◌, ◌<◌, ◌≤◌, Bool, true, cond, ◌&&◌, eqb, ltb, List, [], ◌∷◌, length, refl, ◌∙◌, ⊎_elim, arith}
+use Rattle.std.proofs.lemmas.Bool.{cases_eq}
+use Rattle.std.proofs.lemmas.Bool.Decides.{nat_tests}
 use Rattle.stores.specs.Chains.{one, times}
 
 pub one_self : (i : ℕ) → one (eqb i i) ≡ 1
-one_self i = ap one (eq-eqb i i refl)
+one_self i = grind (arith, nat_tests)
 
 pub one_other : (i j : ℕ) → (i ≡ j → ⊥) → one (eqb i j) ≡ 0
-one_other i j n = ap one (ne_eqb i j n)
+one_other i j n = grind (arith, nat_tests)
 
 pub one_small : (b : Bool) → one b ≤ 1
-one_small true = omega arith
-one_small false = omega arith
+one_small b = grind (arith, nat_tests)
 
 pub one_parts : (x y : Bool) → 0 < one (x && y) → (x ≡ true) × (y ≡ true)
-one_parts true true h = (refl, refl)
-one_parts true false h = absurd (omega arith)
-one_parts false y h = absurd (omega arith)
+one_parts x y h = grind (arith, nat_tests)
 
 pub one_below : (i n : ℕ) (b : Bool) → 0 < one (ltb i n && b) → i < n
-one_below i n b h = ⊎_elim (λ (l : i < n). l) (λ (l : n ≤ i). absurd (omega (arith, ap (λ z. one (z && b)) (le-ltb i n l)))) (cases_lt i n)
+one_below i n b h = grind (arith, nat_tests)
 
 pub one_past : (i n : ℕ) (b : Bool) → n ≤ i → one (ltb i n && b) ≡ 0
-one_past i n b l = ap (λ z. one (z && b)) (le-ltb i n l)
+one_past i n b l = grind (arith, nat_tests)
 
 -- the list without i
 abbrev lacking : ℕ → List ℕ → List ℕ
@@ -31,15 +29,15 @@ lacking i (x ∷ xs) = cond (eqb i x) (lacking i xs) (x ∷ lacking i xs)
 
 length_lacking : (i : ℕ) (xs : List ℕ) → length xs ≡ times i xs + length (lacking i xs)
 length_lacking i [] = omega arith
-length_lacking i (x ∷ xs) = let r = length_lacking i xs in ⊎_elim (λ (e : i ≡ x). simp (eq-eqb i x e) (omega arith)) (λ (n : i ≡ x → ⊥). simp (ne_eqb i x n) (omega arith)) (cases_eq i x)
+length_lacking i (x ∷ xs) = let r = length_lacking i xs in grind (arith, nat_tests)
 
 times_lacking : (i j : ℕ) (xs : List ℕ) → (j ≡ i → ⊥) → times j (lacking i xs) ≡ times j xs
 times_lacking i j [] n = refl
-times_lacking i j (x ∷ xs) n = let r = times_lacking i j xs n in ⊎_elim (λ (e : i ≡ x). simp (eq-eqb i x e) (omega (arith, one_other j x (λ z. n (z ∙ sym e))))) (λ (m : i ≡ x → ⊥). simp (ne_eqb i x m) (omega arith)) (cases_eq i x)
+times_lacking i j (x ∷ xs) n = let r = times_lacking i j xs n in grind (arith, nat_tests)
 
 times_lacked : (i : ℕ) (xs : List ℕ) → times i (lacking i xs) ≡ 0
 times_lacked i [] = refl
-times_lacked i (x ∷ xs) = let r = times_lacked i xs in ⊎_elim (λ (e : i ≡ x). simp (eq-eqb i x e) r) (λ (m : i ≡ x → ⊥). simp (ne_eqb i x m) (omega (arith, one_other i x m))) (cases_eq i x)
+times_lacked i (x ∷ xs) = let r = times_lacked i xs in grind (arith, nat_tests)
 
 -- numbers below n, each at most once, are at most n
 few_once : (n : ℕ) (is : List ℕ) → ((i : ℕ) → times i is ≤ 1) → ((i : ℕ) → n ≤ i → times i is ≡ 0) → length is ≤ n

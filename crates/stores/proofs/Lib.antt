@@ -11,3 +11,4 @@ pub mod Sound
 pub mod Stages
 pub mod Linked
 pub mod Moved
+pub mod Grown

@@ -1,17 +1,18 @@
 -- The lowest triangle along a chain is the lowest of all.
-use Rattle.std.proofs.Common.{◌≡◌, ℕ, ◌+◌, ◌*◌, ◌/◌, ◌%◌, ◌<◌, ◌≤◌, Bool, true, false, cond, eqb, ltb, List, [], ◌∷◌, length, get_or, is_some, Some, None, Option, sym, refl, ap, ◌∙◌, subst, inl, inr, ⊎_elim, arith}
+use Rattle.std.proofs.Common.{◌≡◌, ℕ, ◌+◌, ◌*◌, ◌/◌, ◌<◌, ◌≤◌, min, Bool, true, false, eqb, ltb, List, [], ◌∷◌, map, length, get_or, is_some, Some, None, Option, sym, refl, ap, ◌∙◌, arith}
 use borrow.Author.Tests.{clash}
-use Rattle.std.specs.List.{slice_get}
-use Rattle.std.proofs.lemmas.Bool.{cases_Bool, and_from, eqb-true, eq-eqb, lt-ltb, ltb-true, ltb-false}
-use Rattle.mesh.specs.Triangles.{Tri}
+use Rattle.std.specs.List.{slice_get, filter, fold, reduce}
+use Rattle.std.proofs.lemmas.Bool.{and_from, eq-eqb, lt-ltb}
+use Rattle.std.proofs.lemmas.Bool.Decides.{nat_tests}
+use Rattle.std.proofs.lemmas.Option.{slice_get-get_or, slice_get_within}
+use Rattle.mesh.specs.Triangles.{Tri, tri}
 use Rattle.mesh.specs.Sides.{corner_of, side_of}
 use Rattle.mesh.specs.Rings.{Corner}
-use Rattle.mesh.proofs.Tests.{some_inj, none_some, nth_below}
-use Rattle.mesh.proofs.Links.{Turned, turned, corner_there, there_corner, found, lowest}
+use Rattle.mesh.proofs.Tests.{some_inj, none_some}
+use Rattle.mesh.proofs.Links.{corner_there, there_corner, found, lowest}
 use Rattle.stores.specs.declared.chain_record.ChainTriangle.{ChainTriangle}
 use Rattle.stores.specs.Records.{front}
 use Rattle.stores.specs.Chains.{walk, one, times, no_triangle, corners_in, corner_in, vertex_at, next_at, Holds}
-use Rattle.stores.specs.Lowest.{lower, has_side, lowest_along}
 use Rattle.stores.proofs.Counts.{one_self, one_below}
 use Rattle.stores.proofs.Fronts.{length_front, front_there}
 
@@ -42,7 +43,7 @@ side_least ts u v p o at fine under = go o fine under (side_of ts u v) refl
     held : (k : ℕ) → side_of ts u v ≡ Some k → (k < length ts) × (p k ≡ true)
     held k e =
         let q = found ts u v k e in
-        let l : k < length ts = nth_below ts k q.one q.there_is in
+        let l : k < length ts = slice_get_within ts k q.one q.there_is in
         let t = at k l in
         let c = there_corner q.one q.corner in
         let i : t.0 ≡ q.one = some_inj (sym t.1 ∙ q.there_is) in
@@ -60,85 +61,97 @@ side_least ts u v p o at fine under = go o fine under (side_of ts u v) refl
         let q : b ≡ k = omega (arith, c.1) in
         ap Some q
 
-lower_fine : (n : ℕ) (p : ℕ → Bool) (best : Option ℕ) (b : Bool) (t : ℕ) → Fine n p best → t < n → p t ≡ b → Fine n p (lower best b t)
-lower_fine n p None true t f l e = (l, e)
-lower_fine n p None false t f l e = tt
-lower_fine n p (Some x) true t f l e = elim (ltb t x) as (λ z. Fine n p (Some (cond z t x))) [ true ↦ (l, e) | false ↦ f ]
-lower_fine n p (Some x) false t f l e = f
+fold_min_le : (b : ℕ) (xs : List ℕ) → fold min b xs ≤ b
+fold_min_le b [] = omega arith
+fold_min_le b (x ∷ xs) = let l = fold_min_le (min b x) xs in omega arith
 
-lower_under : (best : Option ℕ) (b : Bool) (t s : ℕ) → Under best s → Under (lower best b t) s
-lower_under None b t s u = absurd u
-lower_under (Some x) true t s u = ⊎_elim (λ (e : ltb t x ≡ true). rw e (omega (arith, ltb-true t x e))) (λ (e : ltb t x ≡ false). rw e u) (cases_Bool (ltb t x))
-lower_under (Some x) false t s u = u
+min_has : (p : ℕ → Bool) (b t : ℕ) → p b ≡ true → p t ≡ true → p (min b t) ≡ true
+min_has p b t e d = grind (arith, nat_tests)
 
-lower_here : (best : Option ℕ) (t : ℕ) → Under (lower best true t) t
-lower_here None t = omega arith
-lower_here (Some x) t = ⊎_elim (λ (e : ltb t x ≡ true). rw e (omega arith)) (λ (e : ltb t x ≡ false). rw e (ltb-false t x e)) (cases_Bool (ltb t x))
+-- the lowest of b and the triangles of the corners of which p holds
+along_fine : (n : ℕ) (p : ℕ → Bool) (b : ℕ) (is : List ℕ) → b < n → p b ≡ true → ((i : ℕ) → 0 < times i is → i / 3 < n) → Fine n p (Some (fold min b (filter p (map (λ i. i / 3) is))))
+along_fine n p b [] l e low = (l, e)
+along_fine n p b (i ∷ is) l e low =
+    let here : i / 3 < n = low i (omega (arith, one_self i)) in
+    let rest : (j : ℕ) → 0 < times j is → j / 3 < n = λ j k. low j (omega arith) in
+    let m = along_fine n p (min b (i / 3)) is (omega arith) in
+    let k = along_fine n p b is l e rest in
+    let h = min_has p b (i / 3) e in
+    grind (arith, nat_tests)
 
-along_fine : (rs : List ChainTriangle) (u v n : ℕ) (is : List ℕ) (best : Option ℕ) → Fine n (has_side rs u v) best → ((i : ℕ) → 0 < times i is → i / 3 < n) → Fine n (has_side rs u v) (lowest_along rs u v is best)
-along_fine rs u v n [] best f low = f
-along_fine rs u v n (i ∷ is) best f low =
-    let p = has_side rs u v in
-    along_fine rs u v n is (lower best (p (i / 3)) (i / 3)) (lower_fine n p best (p (i / 3)) (i / 3) f (low i (omega (arith, one_self i))) refl) (λ j l. low j (omega arith))
+along_under : (p : ℕ → Bool) (b j : ℕ) (is : List ℕ) → 0 < times j is → p (j / 3) ≡ true → fold min b (filter p (map (λ i. i / 3) is)) ≤ j / 3
+along_under p b j [] l e = absurd (omega arith)
+along_under p b j (i ∷ is) l e =
+    let m = fold_min_le (min b (i / 3)) (filter p (map (λ i. i / 3) is)) in
+    let r = along_under p (min b (i / 3)) j is in
+    let t = along_under p b j is in
+    grind (arith, nat_tests)
 
-along_kept : (rs : List ChainTriangle) (u v t : ℕ) (is : List ℕ) (best : Option ℕ) → Under best t → Under (lowest_along rs u v is best) t
-along_kept rs u v t [] best b = b
-along_kept rs u v t (i ∷ is) best b = along_kept rs u v t is (lower best (has_side rs u v (i / 3)) (i / 3)) (lower_under best (has_side rs u v (i / 3)) (i / 3) t b)
+-- the lowest of the triangles of the corners of which p holds
+abbrev lowest_of : (ℕ → Bool) → List ℕ → Option ℕ
+lowest_of p is = reduce min (filter p (map (λ i. i / 3) is))
 
-along_under : (rs : List ChainTriangle) (u v t j : ℕ) (is : List ℕ) (best : Option ℕ) → 0 < times j is → j / 3 ≡ t → has_side rs u v t ≡ true → Under (lowest_along rs u v is best) t
-along_under rs u v t j [] best l e y = absurd (omega arith)
-along_under rs u v t j (i ∷ is) best l e y =
-    ⊎_elim
-    (λ (z : eqb j i ≡ true).
-    let w : i / 3 ≡ t = omega (arith, eqb-true j i z) in
-    rw (w, y) (along_kept rs u v t is (lower best true t) (lower_here best t)))
-    (λ (z : eqb j i ≡ false). along_under rs u v t j is (lower best (has_side rs u v (i / 3)) (i / 3)) (omega (arith, ap one z)) e y)
-    (cases_Bool (eqb j i))
+lowest_fine : (n : ℕ) (p : ℕ → Bool) (is : List ℕ) → ((i : ℕ) → 0 < times i is → i / 3 < n) → Fine n p (lowest_of p is)
+lowest_fine n p [] low = tt
+lowest_fine n p (i ∷ is) low =
+    let here : i / 3 < n = low i (omega (arith, one_self i)) in
+    let rest : (j : ℕ) → 0 < times j is → j / 3 < n = λ j k. low j (omega arith) in
+    let a = along_fine n p (i / 3) is here in
+    let r = lowest_fine n p is rest in
+    grind (arith, nat_tests)
+
+lowest_under : (p : ℕ → Bool) (j : ℕ) (is : List ℕ) → 0 < times j is → p (j / 3) ≡ true → Under (lowest_of p is) (j / 3)
+lowest_under p j [] l e = absurd (omega arith)
+lowest_under p j (i ∷ is) l e =
+    let m = fold_min_le (i / 3) (filter p (map (λ i. i / 3) is)) in
+    let r = along_under p (i / 3) j is in
+    let t = lowest_under p j is in
+    grind (arith, nat_tests)
 
 -- corner k of triangle t
 pub vertex_of_corner : (rs : List ChainTriangle) (t k : ℕ) → k < 3 → vertex_at rs (3 * t + k) ≡ (corner_in (get_or rs t no_triangle) k).vertex
-vertex_of_corner rs t k l =
-    let a : (3 * t + k) / 3 ≡ t = omega arith in
-    let b : (3 * t + k) % 3 ≡ k = omega arith in
-    ap (λ z. (corner_in (get_or rs z no_triangle) ((3 * t + k) % 3)).vertex) a ∙ ap (λ z. (corner_in (get_or rs t no_triangle) z).vertex) b
+vertex_of_corner rs t k l = grind (arith, nat_tests)
 
 -- a triangle with the side has a corner at its start
 start_corner : (x : ChainTriangle) (u v : ℕ) → is_some (corner_of u v (corners_in x)) ≡ true → (k : ℕ) × (k < 3) × ((corner_in x k).vertex ≡ u)
-start_corner x u v e = go (turned (side_there u v (corners_in x) e).1)
-  where
-    go : {y : ℕ} → Turned x.a.vertex x.b.vertex x.c.vertex u v y → (k : ℕ) × (k < 3) × ((corner_in x k).vertex ≡ u)
-    go (inl p) = (0, omega arith, sym p.0)
-    go (inr (inl p)) = (1, omega arith, sym p.0)
-    go (inr (inr p)) = (2, omega arith, sym p.0)
+start_corner x u v e = grind (arith, nat_tests)
 
-side_at : (rs : List ChainTriangle) (u v n : ℕ) → n ≤ length rs → (j : ℕ) → j < length (front corners_in n rs) → (t : Tri) × (slice_get (front corners_in n rs) j ≡ Some t) × (is_some (corner_of u v t) ≡ has_side rs u v j)
-side_at rs u v n k j l =
-    let m = length_front corners_in n rs k in
-    (corners_in (get_or rs j no_triangle), front_there corners_in n rs j no_triangle (omega arith) k, refl)
+-- the triangle, if there is one, has the side u→v
+abbrev pub tells : ℕ → ℕ → Option Tri → Bool
+tells u v None = false
+tells u v (Some t) = is_some (corner_of u v t)
+
+side_at : (ts : List Tri) (u v j : ℕ) → j < length ts → (t : Tri) × (slice_get ts j ≡ Some t) × (is_some (corner_of u v t) ≡ tells u v (slice_get ts j))
+side_at ts u v j l =
+    let e = slice_get-get_or ts j (tri 0 0 0) l in
+    (get_or ts j (tri 0 0 0), e, sym (ap (tells u v) e))
 
 -- the chain at u holds the corners at u: the lowest triangle along it is what the side question finds
-pub along_side : (rs : List ChainTriangle) (u v n h : ℕ) → n ≤ length rs → Holds (3 * n) rs h u → lowest_along rs u v (walk (3 * n) (next_at rs) h) None ≡ side_of (front corners_in n rs) u v
-along_side rs u v n h k holds =
+pub along_side : (rs : List ChainTriangle) (u v n h : ℕ) (o : Option ℕ) → n ≤ length rs → Holds (3 * n) rs h u → o ≡ lowest_of (λ t. tells u v (slice_get (front corners_in n rs) t)) (walk (3 * n) (next_at rs) h) → o ≡ side_of (front corners_in n rs) u v
+along_side rs u v n h o k holds e =
     let is = walk (3 * n) (next_at rs) h in
     let ts = front corners_in n rs in
     let m : length ts ≡ n = length_front corners_in n rs k in
-    let p = has_side rs u v in
-    let o = lowest_along rs u v is None in
-    let fine : Fine n p o = along_fine rs u v n is None tt (λ i l. let b = one_below i (3 * n) (eqb (vertex_at rs i) u) (omega (arith, holds i)) in omega arith) in
-    side_least ts u v p o (side_at rs u v n k) (subst (λ (z : ℕ). Fine z p o) (sym m) fine)
+    let p : ℕ → Bool = λ t. tells u v (slice_get ts t) in
+    let low : (i : ℕ) → 0 < times i is → i / 3 < length ts = λ i l. let b = one_below i (3 * n) (eqb (vertex_at rs i) u) (omega (arith, holds i)) in omega arith in
+    e ∙ side_least ts u v p (lowest_of p is) (side_at ts u v) (lowest_fine (length ts) p is low)
     (λ t l y.
     let lt : t < n = omega arith in
-    let w = start_corner (get_or rs t no_triangle) u v y in
+    let there = front_there corners_in n rs t no_triangle lt k in
+    let w = start_corner (get_or rs t no_triangle) u v (sym (ap (tells u v) there) ∙ y) in
     let j = 3 * t + w.0 in
+    let a : j / 3 ≡ t = omega (arith, w.1) in
     let q : times j is ≡ 1 = holds j ∙ ap one (and_from (ltb j (3 * n)) (eqb (vertex_at rs j) u) (lt-ltb j (3 * n) (omega (arith, w.1))) (eq-eqb (vertex_at rs j) u (vertex_of_corner rs t w.0 w.1 ∙ w.2))) in
-    along_under rs u v t j is None (omega arith) (omega (arith, w.1)) y)
+    rw a at (lowest_under p j is (omega arith) (ap p a ∙ y)))
 
 -- where no corner is at u no triangle has a side from it
 pub none_side : (rs : List ChainTriangle) (u v n m : ℕ) → n ≤ length rs → m ≤ u → ((i : ℕ) → i < 3 * n → vertex_at rs i < m) → None ≡ side_of (front corners_in n rs) u v
 none_side rs u v n m k l placed =
-    let e : length (front corners_in n rs) ≡ n = length_front corners_in n rs k in
-    side_least (front corners_in n rs) u v (has_side rs u v) None (side_at rs u v n k) tt
+    let ts = front corners_in n rs in
+    let e : length ts ≡ n = length_front corners_in n rs k in
+    side_least ts u v (λ t. tells u v (slice_get ts t)) None (side_at ts u v) tt
     (λ t j y.
     let lt : t < n = omega arith in
-    let w = start_corner (get_or rs t no_triangle) u v y in
+    let there = front_there corners_in n rs t no_triangle lt k in
+    let w = start_corner (get_or rs t no_triangle) u v (sym (ap (tells u v) there) ∙ y) in
     absurd (omega (arith, placed (3 * t + w.0) (omega (arith, w.1)), vertex_of_corner rs t w.0 w.1, w.2)))

@@ -1,44 +1,34 @@
--- A walk along a chain for the corner before another.
-use Rattle.std.proofs.Common.{◌≡◌, ℕ, ◌+◌, ◌-◌, ◌<◌, ◌≤◌, List, [], ◌∷◌, Some, None, Option, sym, refl, ap, subst, arith}
+-- The corner before another in a chain, as the last before it on a walk.
+use Rattle.std.proofs.Common.{◌≡◌, ℕ, ◌+◌, ◌<◌, Bool, not, eqb, List, [], ◌∷◌, Some, None, Option, arith}
+use Rattle.std.specs.List.{last_or, take_while}
+use Rattle.std.proofs.lemmas.Bool.Decides.{nat_tests}
+use Rattle.std.proofs.lemmas.List.Sums.{take_while-cons}
 use Rattle.stores.specs.declared.chain_record.ChainTriangle.{ChainTriangle}
-use Rattle.stores.specs.Chains.{walk, times, next_at, Ends, Holds}
-use Rattle.stores.specs.Before.{Leads}
-use Rattle.stores.proofs.Counts.{one_self, one_other}
-use Rattle.stores.proofs.Chains.{Chain}
-use Rattle.stores.proofs.Rests.{Rest, rest_starts, rest_low, rest_more}
+use Rattle.stores.specs.Chains.{walk, times, vertex_at, next_at, Ends, Holds}
+use Rattle.stores.specs.Before.{Leads, Before}
+use Rattle.stores.proofs.Counts.{one_self}
+use Rattle.stores.proofs.Chains.{Chain, chain_walk}
 
--- corner i is still ahead, from the link h on, which follows the corner before it
-pub record Seek (f : ℕ → ℕ) (is : List ℕ) (first n i h : ℕ) (before : Option ℕ) : Type 0 where
-  pub left : Rest f n h
-  pub ahead : 0 < times i left.rest
-  pub part : (j : ℕ) → times j left.rest ≤ times j is
-  pub prior : Leads f is first before h
+-- what leads to the link y in a list does so in a longer one
+leads_longer : (f : ℕ → ℕ) (x h k y z : ℕ) (is js : List ℕ) → Leads f is k (last_or (Some z) js) y → Leads f (x ∷ is) h (last_or (Some z) js) y
+leads_longer f x h k y z is [] l = grind (arith, nat_tests)
+leads_longer f x h k y z is (j ∷ js) l = leads_longer f x h k y j is js l
 
-pub seek_starts : (rs : List ChainTriangle) (n h v i : ℕ) → Ends n rs h → Holds n rs h v → 0 < times i (walk n (next_at rs) h) → Seek (next_at rs) (walk n (next_at rs) h) h n i h None
-seek_starts rs n h v i e m l = record { left = rest_starts rs n h v e m; ahead = l; part = λ j. omega arith; prior = refl }
+-- the first corner leads to the link y, or a later one does
+leads_more : (f : ℕ → ℕ) (x h y : ℕ) (is js : List ℕ) → Leads f is (f x) (last_or None js) y → Leads f (x ∷ is) h (last_or (Some x) js) y
+leads_more f x h y is [] l = (l, omega (arith, one_self x))
+leads_more f x h y is (j ∷ js) l = leads_longer f x h (f x) y j is js l
 
-none_ended : (f : ℕ → ℕ) (h i : ℕ) (is : List ℕ) → Chain f h is → 0 < times i is → h ≡ 0 → ⊥
-none_ended f h i [] c l e = omega arith
-none_ended f h i (x ∷ is) c l e = omega arith
+leads_last : (f : ℕ → ℕ) (h i : ℕ) (is : List ℕ) → Chain f h is → 0 < times i is → Leads f is h (last_or None (take_while (λ j. not (eqb j i)) is)) (i + 1)
+leads_last f h i [] c l = absurd (omega arith)
+leads_last f h i (x ∷ is) c l =
+    let p : ℕ → Bool = λ j. not (eqb j i) in
+    let e = take_while-cons p x is in
+    let r = leads_last f (f x) i is c.1 in
+    let m = leads_more f x h (i + 1) is (take_while p is) in
+    grind (arith, nat_tests)
 
-pub seek_on : (f : ℕ → ℕ) (is : List ℕ) (first n i h : ℕ) (before : Option ℕ) → Seek f is first n i h before → h ≡ 0 → ⊥
-seek_on f is first n i h before s e = none_ended f h i s.left.rest s.left.chain s.ahead e
-
-pub seek_low : (f : ℕ → ℕ) (is : List ℕ) (first n i h : ℕ) (before : Option ℕ) → Seek f is first n i h before → h - 1 < n
-seek_low f is first n i h before s = rest_low f n h s.left (seek_on f is first n i h before s)
-
-pub seek_more : (f : ℕ → ℕ) (is : List ℕ) (first n i h : ℕ) (before : Option ℕ) (next : ℕ) → Seek f is first n i h before → (h - 1 ≡ i → ⊥) → next ≡ f (h - 1) → Seek f is first n i next (Some (h - 1))
-seek_more f is first n i h before next s ne e =
-    let q = rest_more f n h next s.left (seek_on f is first n i h before s) e in
-    record {
-      left = q.0;
-      ahead = omega (arith, s.ahead, ap (times i) q.1, one_other i (h - 1) (λ z. ne (sym z)));
-      part = λ j. omega (arith, s.part j, ap (times j) q.1);
-      prior = (sym e, omega (arith, s.part (h - 1), ap (times (h - 1)) q.1, one_self (h - 1)));
-    }
-
-pub seek_here : (f : ℕ → ℕ) (is : List ℕ) (first n i h : ℕ) (before : Option ℕ) → Seek f is first n i h before → h - 1 ≡ i → Leads f is first before (i + 1)
-seek_here f is first n i h before s e =
-    let z = seek_on f is first n i h before s in
-    let q : h ≡ i + 1 = omega arith in
-    subst (λ (y : ℕ). Leads f is first before y) q s.prior
+pub before_last : (n : ℕ) (rs : List ChainTriangle) (h v i : ℕ) (o : Option ℕ) → Ends n rs h → Holds n rs h v → i < n → vertex_at rs i ≡ v → o ≡ last_or None (take_while (λ j. not (eqb j i)) (walk n (next_at rs) h)) → Before n rs h i o
+before_last n rs h v i o ends holds l at e =
+    let t = holds i in
+    rw e (leads_last (next_at rs) h i (walk n (next_at rs) h) (chain_walk n (next_at rs) h ends) (grind (arith, nat_tests)))

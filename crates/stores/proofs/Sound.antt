@@ -1,10 +1,11 @@
 -- Chains that hold the corners of a set, and what keeps them so.
 use Rattle.std.proofs.Common.{◌≡◌, ℕ, suc, ◌+◌, ◌-◌, ◌<◌, ◌≤◌, Bool, true, false, ◌&&◌, eqb, ltb, List, [], ◌∷◌, sym, refl, ap, ◌∙◌, ⊎_elim, arith}
-use Rattle.std.proofs.lemmas.Bool.{cases_eq, cases_Bool, eq-eqb, ne_eqb, and_left, and_right, and_from}
+use Rattle.std.proofs.lemmas.Bool.{cases_eq, eq-eqb, ne_eqb, and_left, and_right, and_from}
+use Rattle.std.proofs.lemmas.Bool.Decides.{nat_tests}
 use Rattle.stores.specs.declared.chain_record.ChainTriangle.{ChainTriangle}
 use Rattle.stores.specs.declared.chain_record.ChainVertex.{ChainVertex}
 use Rattle.stores.specs.Chains.{walk, one, times, next_at, vertex_at, first_at, Ends, Holds}
-use Rattle.stores.proofs.Counts.{few_corners, one_self, one_other, one_small, one_parts}
+use Rattle.stores.proofs.Counts.{few_corners, one_other, one_parts}
 use Rattle.stores.proofs.Chains.{Chain, chain_walk, walk_chain, chain_kept, chain_first}
 
 -- the chain at each of the first m vertices holds the corners of `on` that are at it, each once
@@ -27,13 +28,22 @@ sound_like on on' m f f' w w' heads heads' s ef ew eh v l =
     (c.0, rw (eh v l) (chain_kept f f' (heads v) c.0 (λ i k. ef i (one_parts (on i) (eqb (w i) v) (omega (arith, c.2 i))).0) c.1), λ i. c.2 i ∙ ap one (sym (ew i v)))
 
 -- a new vertex, with no corner at it
+none_there : (on : ℕ → Bool) (m v : ℕ) (w : ℕ → ℕ) → v ≡ m → ((i : ℕ) → on i ≡ true → w i < m) → (i : ℕ) → 0 ≡ one (on i && eqb (w i) v)
+none_there on m v w q low i = let l = low i in grind (arith, nat_tests)
+
 pub sound_more : (on : ℕ → Bool) (m : ℕ) (f w heads heads' : ℕ → ℕ) → Sound on m f w heads → heads' m ≡ 0 → ((v : ℕ) → v < m → heads' v ≡ heads v) → ((i : ℕ) → on i ≡ true → w i < m) → Sound on (m + 1) f w heads'
 sound_more on m f w heads heads' s e eh low v l =
     ⊎_elim
-    (λ (q : v ≡ m).
-    ([], ap heads' q ∙ e, λ i. sym (⊎_elim (λ (y : on i ≡ true). ap one (and_right (on i) (eqb (w i) v) (ne_eqb (w i) v (λ z. omega (arith, low i y))))) (λ (y : on i ≡ false). ap one (and_left (on i) (eqb (w i) v) y)) (cases_Bool (on i)))))
+    (λ (q : v ≡ m). ([], ap heads' q ∙ e, none_there on m v w q low))
     (λ (q : v ≡ m → ⊥). let k : v < m = omega arith in let c = s v k in (c.0, rw (eh v k) c.1, c.2))
     (cases_eq v m)
+
+-- the counts with corner i, at its vertex and at another
+count_more : (on on' : ℕ → Bool) (w : ℕ → ℕ) (i v : ℕ) (is : List ℕ) → ((j : ℕ) → times j is ≡ one (on j && eqb (w j) v)) → on i ≡ false → on' i ≡ true → ((j : ℕ) → (j ≡ i → ⊥) → on' j ≡ on j) → v ≡ w i → (j : ℕ) → one (eqb j i) + times j is ≡ one (on' j && eqb (w j) v)
+count_more on on' w i v is c off now others q j = let a = c j in let o = others j in grind (arith, nat_tests)
+
+count_else : (on on' : ℕ → Bool) (w : ℕ → ℕ) (i v : ℕ) (is : List ℕ) → ((j : ℕ) → times j is ≡ one (on j && eqb (w j) v)) → on i ≡ false → on' i ≡ true → ((j : ℕ) → (j ≡ i → ⊥) → on' j ≡ on j) → (v ≡ w i → ⊥) → (j : ℕ) → times j is ≡ one (on' j && eqb (w j) v)
+count_else on on' w i v is c off now others q j = let a = c j in let o = others j in grind (arith, nat_tests)
 
 -- corner i, in no chain yet, goes first in that at its vertex
 sound_push : (on on' : ℕ → Bool) (m : ℕ) (f f' w heads heads' : ℕ → ℕ) (i : ℕ) → Sound on m f w heads → on i ≡ false → on' i ≡ true → ((j : ℕ) → (j ≡ i → ⊥) → on' j ≡ on j) → f' i ≡ heads (w i) → ((j : ℕ) → (j ≡ i → ⊥) → f' j ≡ f j) → heads' (w i) ≡ suc i → ((v : ℕ) → (v ≡ w i → ⊥) → heads' v ≡ heads v) → Sound on' m f' w heads'
@@ -43,49 +53,25 @@ sound_push on on' m f f' w heads heads' i s off now others fi fj hi hj v l =
     let none : times i is ≡ 0 = c.2 i ∙ ap one (and_left (on i) (eqb (w i) v) off) in
     let kept : Chain f' (heads v) is = chain_kept f f' (heads v) is (λ j k. fj j (λ q. omega (arith, none, ap (λ z. times z is) q))) c.1 in
     ⊎_elim
-    (λ (q : v ≡ w i). (
-      i ∷ is,
-      (ap heads' q ∙ hi, rw (fi ∙ ap heads (sym q)) kept),
-      λ j. ⊎_elim
-          (λ (r : j ≡ i). omega (arith, ap (λ z. one (eqb z i) + times z is) r, one_self i, none, ap (λ z. one (on' z && eqb (w z) v)) r, ap (λ z. one (z && eqb (w i) v)) now, ap one (eq-eqb (w i) v (sym q))))
-          (λ (r : j ≡ i → ⊥). omega (arith, one_other j i r, c.2 j, ap (λ z. one (z && eqb (w j) v)) (others j r)))
-          (cases_eq j i),
-    ))
-    (λ (q : v ≡ w i → ⊥). (
-      is,
-      rw (hj v q) kept,
-      λ j. ⊎_elim
-          (λ (r : j ≡ i). omega (arith, none, ap (λ z. times z is) r, ap (λ z. one (on' z && eqb (w z) v)) r, ap one (and_right (on' i) (eqb (w i) v) (ne_eqb (w i) v (λ z. q (sym z))))))
-          (λ (r : j ≡ i → ⊥). c.2 j ∙ ap (λ z. one (z && eqb (w j) v)) (sym (others j r)))
-          (cases_eq j i),
-    ))
+    (λ (q : v ≡ w i). (i ∷ is, (ap heads' q ∙ hi, rw (fi ∙ ap heads (sym q)) kept), count_more on on' w i v is c.2 off now others q))
+    (λ (q : v ≡ w i → ⊥). (is, rw (hj v q) kept, count_else on on' w i v is c.2 off now others q))
     (cases_eq v (w i))
+
+-- another vertex for corner i, in no chain yet, changes no count
+count_away : (on : ℕ → Bool) (w w' : ℕ → ℕ) (i : ℕ) → on i ≡ false → ((j : ℕ) → (j ≡ i → ⊥) → w' j ≡ w j) → (j v : ℕ) → (on j && eqb (w' j) v) ≡ (on j && eqb (w j) v)
+count_away on w w' i off wj j v = let o = wj j in grind (arith, nat_tests)
 
 -- corner i, in no chain yet, comes to a vertex and goes first in the chain there
 pub sound_link : (on on' : ℕ → Bool) (m : ℕ) (f f' w w' heads heads' : ℕ → ℕ) (i : ℕ) → Sound on m f w heads → on i ≡ false → on' i ≡ true → ((j : ℕ) → (j ≡ i → ⊥) → on' j ≡ on j) → ((j : ℕ) → (j ≡ i → ⊥) → w' j ≡ w j) → f' i ≡ heads (w' i) → ((j : ℕ) → (j ≡ i → ⊥) → f' j ≡ f j) → heads' (w' i) ≡ suc i → ((v : ℕ) → (v ≡ w' i → ⊥) → heads' v ≡ heads v) → Sound on' m f' w' heads'
 sound_link on on' m f f' w w' heads heads' i s off now others wj fi fj hi hj =
-    let away : (j v : ℕ) → (on j && eqb (w' j) v) ≡ (on j && eqb (w j) v) =
-    λ j v. ⊎_elim (λ (e : j ≡ i). let o : on j ≡ false = ap on e ∙ off in and_left (on j) (eqb (w' j) v) o ∙ sym (and_left (on j) (eqb (w j) v) o)) (λ (n : j ≡ i → ⊥). ap (λ z. on j && eqb z v) (wj j n)) (cases_eq j i) in
-    sound_push on on' m f f' w' heads heads' i (sound_like on on m f f w w' heads heads s (λ j y. refl) away (λ v l. refl)) off now others fi fj hi hj
+    sound_push on on' m f f' w' heads heads' i (sound_like on on m f f w w' heads heads s (λ j y. refl) (count_away on w w' i off wj) (λ v l. refl)) off now others fi fj hi hj
 
 -- the counts without corner i, at its vertex and at another
 count_less : (on on' : ℕ → Bool) (w : ℕ → ℕ) (i v : ℕ) (is js : List ℕ) → ((j : ℕ) → times j is ≡ one (eqb j i) + times j js) → ((j : ℕ) → times j is ≡ one (on j && eqb (w j) v)) → on' i ≡ false → ((j : ℕ) → (j ≡ i → ⊥) → on' j ≡ on j) → (j : ℕ) → times j js ≡ one (on' j && eqb (w j) v)
-count_less on on' w i v is js split c off others j =
-    ⊎_elim
-    (λ (r : j ≡ i).
-    let a : one (on' j && eqb (w j) v) ≡ 0 = ap one (and_left (on' j) (eqb (w j) v) (ap on' r ∙ off)) in
-    omega (arith, a, split j, c j, one_small (on j && eqb (w j) v), ap one (eq-eqb j i r)))
-    (λ (r : j ≡ i → ⊥). omega (arith, split j, c j, one_other j i r, ap (λ z. one (z && eqb (w j) v)) (others j r)))
-    (cases_eq j i)
+count_less on on' w i v is js split c off others j = let a = split j in let b = c j in let o = others j in grind (arith, nat_tests)
 
 count_same : (on on' : ℕ → Bool) (w : ℕ → ℕ) (i v : ℕ) → (v ≡ w i → ⊥) → ((j : ℕ) → (j ≡ i → ⊥) → on' j ≡ on j) → (j : ℕ) → one (on j && eqb (w j) v) ≡ one (on' j && eqb (w j) v)
-count_same on on' w i v q others j =
-    ⊎_elim
-    (λ (r : j ≡ i).
-    let e : eqb (w j) v ≡ false = ne_eqb (w j) v (λ z. q (sym z ∙ ap w r)) in
-    ap one (and_right (on j) (eqb (w j) v) e) ∙ sym (ap one (and_right (on' j) (eqb (w j) v) e)))
-    (λ (r : j ≡ i → ⊥). ap (λ z. one (z && eqb (w j) v)) (sym (others j r)))
-    (cases_eq j i)
+count_same on on' w i v q others j = let o = others j in grind (arith, nat_tests)
 
 -- corner i goes out, where it is the first
 pub sound_unhead : (on on' : ℕ → Bool) (m : ℕ) (f w heads heads' : ℕ → ℕ) (i : ℕ) → Sound on m f w heads → on i ≡ true → on' i ≡ false → ((j : ℕ) → (j ≡ i → ⊥) → on' j ≡ on j) → heads (w i) ≡ suc i → heads' (w i) ≡ f i → ((v : ℕ) → (v ≡ w i → ⊥) → heads' v ≡ heads v) → Sound on' m f w heads'

@@ -1,6 +1,6 @@
 pub mod Records
 pub mod Listed
 pub mod Chains
-pub mod Lowest
 pub mod Before
+pub mod Walks
 pub mod Chained

@@ -1,17 +1,18 @@
 // The chain store: triangles and vertices in order of their numbers, and a chain through the
 // corners at each vertex.
-ghost use Rattle.std.specs.Prelude.{ℕ, ◌*◌, ◌<◌, ◌≤◌, min, length};
+ghost use Rattle.std.specs.Prelude.{ℕ, ◌*◌, ◌<◌, ◌≤◌, ◌≡◌, min, take, length};
 ghost use Rattle.stores.specs.Chains.{vertex_at, first_at, Ends, Holds};
 
-use crate::chain_record::ChainTables;
+use crate::chain_record::{ChainTables, ChainTriangle, ChainVertex};
 use std::marker::PhantomData;
 
-// The records in use are the first ones of each table. `P` is the kind of place.
+// The records in use are the first ones of each table. `P` is the kind of place. The counts stand
+// beside the tables, since these are lent and memory is fixed: a store cannot grow them.
 #[derive(Drop)]
 pub struct ChainStore<'a, P> {
     pub(crate) tables: ChainTables<'a>,
-    pub(crate) triangle_count: usize,
-    pub(crate) vertex_count: usize,
+    pub(crate) triangle_count: u32,
+    pub(crate) vertex_count: u32,
     pub(crate) kind: PhantomData<P>,
     ghost triangles_fit: { triangle_count ≤ min (length tables.triangles.now) 32768 },
     ghost vertices_fit: { vertex_count ≤ min (length tables.vertices.now) 16384 },
@@ -20,4 +21,18 @@ pub struct ChainStore<'a, P> {
     // The chain of each vertex ends, and holds the corners at it.
     ghost ends: { (v : ℕ) → v < vertex_count → Ends (3 * triangle_count) tables.triangles.now (first_at tables.vertices.now v) },
     ghost holds: { (v : ℕ) → v < vertex_count → Holds (3 * triangle_count) tables.triangles.now (first_at tables.vertices.now v) v },
+}
+
+impl<'a, P> ChainStore<'a, P> {
+    pub(crate) fn triangles_in_use(&self) -> &[ChainTriangle]
+        ensures { result.now ≡ take self.now.triangle_count self.now.tables.triangles.now }
+    {
+        &self.tables.triangles[..self.triangle_count as usize]
+    }
+
+    pub(crate) fn vertices_in_use(&self) -> &[ChainVertex]
+        ensures { result.now ≡ take self.now.vertex_count self.now.tables.vertices.now }
+    {
+        &self.tables.vertices[..self.vertex_count as usize]
+    }
 }

@@ -5,9 +5,11 @@ ghost use Rattle.stores.specs.Chained.{chain_mesh, chain_vertex_room, chain_tria
 
 use crate::chain::ChainStore;
 use crate::chain_record::{ChainTables, ChainTriangle, ChainVertex};
-use crate::fits::{corner_fits, triangle_fits, triangle_room, vertex_fits, vertex_room};
-use crate::stored::stored_vertex;
-use mesh::{GrowingStore, Triangle};
+use crate::fits::{
+    may_add_triangle, may_add_vertex, may_replace_corner, may_replace_place, room_of,
+};
+use crate::record::VertexRecord;
+use mesh::{GrowingStore, Room, Triangle};
 use place::Place;
 use std::marker::PhantomData;
 
@@ -18,12 +20,11 @@ impl<'a, P: Place> ChainStore<'a, P> {
         ensures empty { chain_mesh P.Place.kind result ≡ mesh_of [] [] }
         ensures room { (chain_vertex_room result ≡ min (length vertices.old) 16384) × (chain_triangle_room result ≡ min (length triangles.old) 32768) }
     {
-        let tables = ChainTables {
-            triangles,
-            vertices,
-        };
         ChainStore {
-            tables,
+            tables: ChainTables {
+                triangles,
+                vertices,
+            },
             triangle_count: 0,
             vertex_count: 0,
             kind: PhantomData,
@@ -38,32 +39,25 @@ impl<'a, P: Place> GrowingStore for ChainStore<'a, P> {
 
     ghost room_limited = { chain_room_limited };
 
-    fn vertex_capacity(&self) -> u32 {
-        vertex_room(self.tables.vertices.len()) as u32
-    }
-
-    fn triangle_capacity(&self) -> u32 {
-        triangle_room(self.tables.triangles.len()) as u32
+    fn room(&self) -> Room {
+        room_of(self.tables.triangles.len(), self.tables.vertices.len())
     }
 
     fn add_vertex(&mut self, place: P, parent: u32) -> bool {
-        let n = self.vertex_count;
-        let room = vertex_room(self.tables.vertices.len());
-        if !vertex_fits(room, n, parent) {
+        if !may_add_vertex(self, self.room().vertices, parent) {
             return false;
         }
-        let stored = stored_vertex(place, parent);
-        self.tables.vertices[n] = ChainVertex { stored, first: 0 };
-        self.vertex_count = n + 1;
+        let stored = VertexRecord::new(place, parent);
+        self.tables.vertices[self.vertex_count as usize] = ChainVertex { stored, first: 0 };
+        self.vertex_count += 1;
         true
     }
 
     fn add_triangle(&mut self, t: Triangle) -> bool {
-        let n = self.triangle_count;
-        let room = triangle_room(self.tables.triangles.len());
-        if !triangle_fits(room, n, self.vertex_count, t) {
+        if !may_add_triangle(self, self.room().triangles, t) {
             return false;
         }
+        let n = self.triangle_count;
         self.tables.link(3 * n, t.a);
         self.tables.link(3 * n + 1, t.b);
         self.tables.link(3 * n + 2, t.c);
@@ -72,29 +66,23 @@ impl<'a, P: Place> GrowingStore for ChainStore<'a, P> {
     }
 
     fn replace_corner(&mut self, t: u32, corner: u8, v: u32) -> bool {
-        let i = t as usize;
-        if i >= self.triangle_count {
+        if !may_replace_corner(self, t, corner, v) {
             return false;
         }
-        let old = self.tables.triangle(i);
-        if !corner_fits(self.vertex_count, corner, v, old) {
-            return false;
-        }
-        let at = 3 * i + corner as usize;
-        let from = self.tables.corner(at).vertex;
-        let before = self.before(from, at);
-        self.tables.unlink(at, before, from);
+        let at = 3 * t + u32::from(corner);
+        let before = self.before(at);
+        self.tables.unlink(at, before);
         self.tables.link(at, v);
         true
     }
 
     fn replace_place(&mut self, v: u32, place: P) -> bool {
-        let i = v as usize;
-        if i >= self.vertex_count {
+        if !may_replace_place(self, v) {
             return false;
         }
+        let i = v as usize;
         let parent = self.tables.vertices[i].stored.parent;
-        self.tables.vertices[i].stored = stored_vertex(place, parent);
+        self.tables.vertices[i].stored = VertexRecord::new(place, parent);
         true
     }
 }

@@ -1,56 +1,28 @@
-// Corners of the chain store's tables, and their links.
-ghost use Rattle.std.specs.Prelude.{◌≡◌, ◌+◌, ◌/◌, ◌<◌, length, slice_index_or};
-ghost use Rattle.mesh.specs.Triangles.{tri_of};
-ghost use Rattle.stores.specs.Chains.{chain_corner, no_triangle, corners_in, corner_at, next_at, first_at};
-ghost use Rattle.stores.specs.Chains.{with_link, put_corner, put_first, relinked, refirsted, Within};
+// Corners of the chain store's tables, and their links. That a corner is one of the tables' stands
+// in each contract: the bound is the length of a table that the call writes to, and a number by
+// itself cannot keep it.
+ghost use Rattle.std.specs.Prelude.{◌≡◌, ◌+◌, ◌/◌, ◌<◌, length};
+ghost use Rattle.stores.specs.Chains.{chain_corner, corner_at, vertex_at, next_at, first_at};
+ghost use Rattle.stores.specs.Chains.{put_corner, put_first, relinked, refirsted, Within};
 
-use crate::chain_record::{ChainCorner, ChainTables, ChainTriangle};
-use mesh::Triangle;
-
-// The triangle with another corner k.
-fn with_link(r: ChainTriangle, k: usize, x: ChainCorner) -> ChainTriangle
-    ensures { result ≡ with_link r k x }
-{
-    match k {
-        0 => ChainTriangle { a: x, ..r },
-        1 => ChainTriangle { b: x, ..r },
-        _ => ChainTriangle { c: x, ..r },
-    }
-}
+use crate::chain_record::{ChainCorner, ChainTables};
 
 impl<'a> ChainTables<'a> {
-    // The three vertices of triangle t.
-    pub(crate) fn triangle(&self, t: usize) -> Triangle
-        requires { t < length self.now.triangles.now }
-        ensures { tri_of result ≡ corners_in (slice_index_or self.now.triangles.now t no_triangle) }
-    {
-        let r = self.triangles[t];
-        Triangle {
-            a: r.a.vertex,
-            b: r.b.vertex,
-            c: r.c.vertex,
-        }
-    }
-
-    pub(crate) fn corner(&self, i: usize) -> ChainCorner
+    pub(crate) fn corner(&self, i: u32) -> ChainCorner
         requires { i / 3 < length self.now.triangles.now }
         ensures { result ≡ corner_at self.now.triangles.now i }
     {
-        let r = self.triangles[i / 3];
-        match i % 3 {
-            0 => r.a,
-            1 => r.b,
-            _ => r.c,
-        }
+        let r = self.triangles[(i / 3) as usize];
+        r.corner(i % 3)
     }
 
-    fn put_corner(&mut self, i: usize, x: ChainCorner)
+    fn put_corner(&mut self, i: u32, x: ChainCorner)
         requires { i / 3 < length self.old.triangles.now }
         ensures written { self.new.triangles.now ≡ put_corner self.old.triangles.now i x }
         ensures same { self.new.vertices.now ≡ self.old.vertices.now }
     {
-        let r = self.triangles[i / 3];
-        self.triangles[i / 3] = with_link(r, i % 3, x);
+        let t = (i / 3) as usize;
+        self.triangles[t] = self.triangles[t].with_corner(i % 3, x);
     }
 
     fn put_first(&mut self, v: u32, link: u32)
@@ -62,7 +34,7 @@ impl<'a> ChainTables<'a> {
     }
 
     // Corner i, in no chain, comes to v and goes first in the chain there.
-    pub(crate) fn link(&mut self, i: usize, v: u32)
+    pub(crate) fn link(&mut self, i: u32, v: u32)
         requires within { i / 3 < length self.old.triangles.now }
         requires small { i < 98304 }
         requires there { v < length self.old.vertices.now }
@@ -71,24 +43,25 @@ impl<'a> ChainTables<'a> {
     {
         let next = self.vertices[v as usize].first;
         self.put_corner(i, ChainCorner { vertex: v, next });
-        self.put_first(v, i as u32 + 1);
+        self.put_first(v, i + 1);
     }
 
-    // Corner i goes out of the chain at v, where it follows the corner `before`, or is the first.
-    pub(crate) fn unlink(&mut self, i: usize, before: Option<usize>, v: u32)
+    // Corner i goes out of the chain at its vertex, where it follows the corner `before`, or is the
+    // first.
+    pub(crate) fn unlink(&mut self, i: u32, before: Option<u32>)
         requires within { i / 3 < length self.old.triangles.now }
         requires prior { Within before (length self.old.triangles.now) }
-        requires there { v < length self.old.vertices.now }
+        requires there { vertex_at self.old.triangles.now i < length self.old.vertices.now }
         ensures corners { self.new.triangles.now ≡ relinked self.old.triangles.now before (next_at self.old.triangles.now i) }
-        ensures firsts { self.new.vertices.now ≡ refirsted self.old.vertices.now before v (next_at self.old.triangles.now i) }
+        ensures firsts { self.new.vertices.now ≡ refirsted self.old.vertices.now before (vertex_at self.old.triangles.now i) (next_at self.old.triangles.now i) }
     {
-        let next = self.corner(i).next;
+        let ChainCorner { vertex, next } = self.corner(i);
         match before {
             Some(p) => {
-                let vertex = self.corner(p).vertex;
-                self.put_corner(p, ChainCorner { vertex, next });
+                let prior = self.corner(p);
+                self.put_corner(p, ChainCorner { next, ..prior });
             }
-            None => self.put_first(v, next),
+            None => self.put_first(vertex, next),
         }
     }
 }

@@ -2,7 +2,6 @@
 ghost use Rattle.stores.specs.Chained.{chain_mesh, chain_limited};
 
 use crate::chain::ChainStore;
-use crate::stored::stored_place;
 use mesh::{ReadingSurface, Triangle};
 use place::Place;
 
@@ -14,46 +13,38 @@ impl<'a, P: Place> ReadingSurface for ChainStore<'a, P> {
     ghost limited = { chain_limited P.Place.kind };
 
     fn vertex_count(&self) -> u32 {
-        self.vertex_count as u32
+        self.vertex_count
     }
 
     fn triangle_count(&self) -> u32 {
-        self.triangle_count as u32
+        self.triangle_count
     }
 
     fn triangle(&self, t: u32) -> Option<Triangle> {
-        let i = t as usize;
-        if i < self.triangle_count {
-            Some(self.tables.triangle(i))
-        } else {
-            None
-        }
+        self.triangles_in_use()
+            .get(t as usize)
+            .map(|r| r.triangle())
     }
 
     fn place(&self, v: u32) -> Option<P> {
-        let i = v as usize;
-        if i >= self.vertex_count {
-            return None;
-        }
-        let stored = self.tables.vertices[i].stored;
-        Some(stored_place(&stored))
+        self.vertices_in_use()
+            .get(v as usize)
+            .map(|r| r.stored.place())
     }
 
     fn parent(&self, v: u32) -> Option<u32> {
-        let i = v as usize;
-        if i < self.vertex_count {
-            Some(self.tables.vertices[i].stored.parent)
-        } else {
-            None
-        }
+        self.vertices_in_use()
+            .get(v as usize)
+            .map(|r| r.stored.parent)
     }
 
     fn side(&self, u: u32, v: u32) -> Option<u32> {
-        let i = u as usize;
-        if i >= self.vertex_count {
+        if u >= self.vertex_count {
             return None;
         }
-        let first = self.tables.vertices[i].first;
-        self.tables.lowest(self.triangle_count, first, u, v)
+        self.corners_at(u)
+            .map(|i| i / 3)
+            .filter(|&t| self.triangle(t).and_then(|x| x.side_corner(u, v)).is_some())
+            .min()
     }
 }

@@ -1,8 +1,13 @@
 // The records of the chain store.
+ghost use Rattle.std.specs.Prelude.{◌≡◌};
+ghost use Rattle.mesh.specs.Triangles.{tri_of};
+
 use crate::record::VertexRecord;
+use mesh::Triangle;
 
 // A corner: its vertex, and the link to the next corner at that vertex. Corner k of triangle t has
-// the number 3t + k. The link to a corner is its number and one, and the link 0 ends a chain.
+// the number 3t + k. The link to a corner is its number and one, and the link 0 ends a chain. Links are
+// numbers, since the tables are lent and memory is fixed.
 #[derive(Clone, Copy)]
 pub struct ChainCorner {
     pub vertex: u32,
@@ -23,21 +28,57 @@ pub struct ChainVertex {
     pub first: u32,
 }
 
-// What a table may be filled with before a store takes it.
+impl ChainCorner {
+    const UNUSED: ChainCorner = ChainCorner { vertex: 0, next: 0 };
+}
+
 impl ChainTriangle {
+    ghost use Rattle.stores.specs.Chains.{corners_in, corner_in, with_link};
+
+    // What a table may be filled with before a store takes it.
     pub const UNUSED: ChainTriangle = ChainTriangle {
-        a: ChainCorner { vertex: 0, next: 0 },
-        b: ChainCorner { vertex: 0, next: 0 },
-        c: ChainCorner { vertex: 0, next: 0 },
+        a: ChainCorner::UNUSED,
+        b: ChainCorner::UNUSED,
+        c: ChainCorner::UNUSED,
     };
+
+    pub(crate) fn triangle(&self) -> Triangle
+        ensures { tri_of result ≡ corners_in self.now }
+    {
+        Triangle {
+            a: self.a.vertex,
+            b: self.b.vertex,
+            c: self.c.vertex,
+        }
+    }
+
+    // The corner k, or the last where there is no corner k.
+    pub(crate) fn corner(&self, k: u32) -> ChainCorner
+        ensures { result ≡ corner_in self.now k }
+    {
+        match k {
+            0 => self.a,
+            1 => self.b,
+            _ => self.c,
+        }
+    }
+
+    // The triangle with x for its corner k, or for its last where it has no corner k.
+    pub(crate) fn with_corner(self, k: u32, x: ChainCorner) -> ChainTriangle
+        ensures { result ≡ with_link self k x }
+    {
+        match k {
+            0 => ChainTriangle { a: x, ..self },
+            1 => ChainTriangle { b: x, ..self },
+            _ => ChainTriangle { c: x, ..self },
+        }
+    }
 }
 
 impl ChainVertex {
+    // What a table may be filled with before a store takes it.
     pub const UNUSED: ChainVertex = ChainVertex {
-        stored: VertexRecord {
-            place: [0; 12],
-            parent: 0,
-        },
+        stored: VertexRecord::UNUSED,
         first: 0,
     };
 }

@@ -1,61 +1,58 @@
 // Walks along a chain.
-ghost use Rattle.std.specs.Prelude.{◌≡◌, ◌*◌, ◌<◌, ◌≤◌, length, None};
-ghost use Rattle.stores.specs.Chains.{vertex_at, next_at, first_at, Ends, Holds, walk};
-ghost use Rattle.stores.specs.Lowest.{lower, lowest_along};
+ghost use Rattle.std.specs.Prelude.{◌≡◌, ◌*◌, ◌<◌, All, length};
+ghost use Rattle.std.specs.Iterator.{YieldsFirst, item_count};
+ghost use Rattle.stores.specs.Chains.{vertex_at, next_at, first_at, Ends, walk};
 ghost use Rattle.stores.specs.Before.{Before};
 
 use crate::chain::ChainStore;
-use crate::chain_record::ChainTables;
+use crate::chain_record::ChainTriangle;
 
-// The lower of the best so far and t, where t has the side.
-fn lower(best: Option<u32>, has_side: bool, t: u32) -> Option<u32>
-    ensures { result ≡ lower best has_side t }
-{
-    match best {
-        Some(b) => Some(if has_side && t < b { t } else { b }),
-        None => if has_side { Some(t) } else { None },
-    }
+// The numbers of the corners of a chain, from a link on. They are corners of the table.
+#[derive(Drop)]
+pub(crate) struct Chain<'t> {
+    pub(crate) triangles: &'t [ChainTriangle],
+    pub(crate) link: u32,
+    ghost ends: { Ends (3 * length triangles.now) triangles.now link },
+    ghost within: { All (λ i. i < 3 * length triangles.now) (walk (3 * length triangles.now) (next_at triangles.now) link) },
 }
 
-impl<'a> ChainTables<'a> {
-    // The lowest triangle with the side u→v along the chain at u, which begins at the link `first`.
-    pub(crate) fn lowest(&self, n: usize, first: u32, u: u32, v: u32) -> Option<u32>
-        requires within { n ≤ length self.now.triangles.now }
-        requires small { n ≤ 32768 }
-        requires ends { Ends (3 * n) self.now.triangles.now first }
-        requires holds { Holds (3 * n) self.now.triangles.now first u }
-        ensures { result ≡ lowest_along self.now.triangles.now u v (walk (3 * n) (next_at self.now.triangles.now) first) None }
-    {
-        let mut best = None;
-        let mut link = first;
-        while link != 0 {
-            let i = (link - 1) as usize;
-            let t = self.triangle(i / 3);
-            best = lower(best, t.side_corner(u, v).is_some(), (i / 3) as u32);
-            link = self.corner(i).next;
-        }
-        best
+impl<'t> Iterator for Chain<'t> {
+    ghost use Rattle.stores.specs.Walks.{corners_left};
+
+    type Item = u32;
+
+    ghost next_gives = { YieldsFirst corners_left };
+
+    ghost remaining = { item_count corners_left };
+
+    fn next(&mut self) -> Option<u32> {
+        let i = self.link.checked_sub(1)?;
+        let r = self.triangles[(i / 3) as usize];
+        self.link = r.corner(i % 3).next;
+        Some(i)
     }
 }
 
 impl<'a, P> ChainStore<'a, P> {
-    // The corner before corner i in the chain at v, none if corner i is the first.
-    pub(crate) fn before(&self, v: u32, i: usize) -> Option<usize>
-        requires vertex { v < self.now.vertex_count }
-        requires corner { i < 3 * self.now.triangle_count }
-        requires there { vertex_at self.now.tables.triangles.now i ≡ v }
-        ensures { Before (3 * self.now.triangle_count) self.now.tables.triangles.now (first_at self.now.tables.vertices.now v) i result }
+    ghost use Rattle.stores.specs.Walks.{corners_left};
+
+    // The corners at vertex v, along its chain.
+    pub(crate) fn corners_at(&self, v: u32) -> Chain<'_>
+        requires { v < self.now.vertex_count }
+        ensures { corners_left result ≡ walk (3 * self.now.triangle_count) (next_at self.now.tables.triangles.now) (first_at self.now.tables.vertices.now v) }
     {
-        let mut before = None;
-        let mut link = self.tables.vertices[v as usize].first;
-        while link != 0 {
-            let j = (link - 1) as usize;
-            if j == i {
-                return before;
-            }
-            before = Some(j);
-            link = self.tables.corner(j).next;
+        Chain {
+            triangles: self.tables.triangles,
+            link: self.tables.vertices[v as usize].first,
         }
-        before
+    }
+
+    // The corner before corner i in the chain at its vertex, none if corner i is the first.
+    pub(crate) fn before(&self, i: u32) -> Option<u32>
+        requires { i < 3 * self.now.triangle_count }
+        ensures { Before (3 * self.now.triangle_count) self.now.tables.triangles.now (first_at self.now.tables.vertices.now (vertex_at self.now.tables.triangles.now i)) i result }
+    {
+        let v = self.tables.corner(i).vertex;
+        self.corners_at(v).take_while(|&j| j != i).last()
     }
 }

@@ -1,61 +1,49 @@
-// What may be added or replaced, by the counts alone.
+// What both stores ask of their tables: how much room there is, and which changes they may make. Places, parents, corners
+// and vertices go by themselves, as in the calls of a growing store, which may be asked for any.
 ghost use Rattle.std.specs.Prelude.{◌≡◌, min};
 ghost use Rattle.mesh.specs.Triangles.{tri_of};
-ghost use Rattle.mesh.specs.Growth.{all_below, different, with_corner, vertex_fits, triangle_fits, corner_fits};
+ghost use Rattle.mesh.specs.Growth.{may_add_vertex, may_add_triangle, may_replace_corner, may_replace_place};
 
-use mesh::{MAX_TRIANGLES, MAX_VERTICES, Triangle};
+use mesh::{MAX_TRIANGLES, MAX_VERTICES, ReadingSurface, Room, Triangle};
 
-// How many vertices a table of this length holds.
-pub(crate) fn vertex_room(table: usize) -> usize
-    ensures { result ≡ min table 16384 }
+// The room in tables of these lengths, within the limits of a mesh.
+pub(crate) fn room_of(triangles: usize, vertices: usize) -> Room
+    ensures triangles { result.triangles ≡ min triangles 32768 }
+    ensures vertices { result.vertices ≡ min vertices 16384 }
 {
-    table.min(MAX_VERTICES as usize)
-}
-
-// How many triangles a table of this length holds.
-pub(crate) fn triangle_room(table: usize) -> usize
-    ensures { result ≡ min table 32768 }
-{
-    table.min(MAX_TRIANGLES as usize)
-}
-
-pub(crate) fn vertex_fits(room: usize, n: usize, parent: u32) -> bool
-    ensures { result ≡ vertex_fits room n parent }
-{
-    n < room && parent as usize <= n
-}
-
-fn all_below(n: usize, t: Triangle) -> bool
-    ensures { result ≡ all_below n (tri_of t) }
-{
-    (t.a as usize) < n && (t.b as usize) < n && (t.c as usize) < n
-}
-
-fn different(t: Triangle) -> bool
-    ensures { result ≡ different (tri_of t) }
-{
-    t.a != t.b && t.b != t.c && t.c != t.a
-}
-
-pub(crate) fn triangle_fits(room: usize, n: usize, vertices: usize, t: Triangle) -> bool
-    ensures { result ≡ triangle_fits room n vertices (tri_of t) }
-{
-    n < room && all_below(vertices, t) && different(t)
-}
-
-// The triangle with v for its corner k.
-pub(crate) fn with_corner(t: Triangle, k: u8, v: u32) -> Triangle
-    ensures { tri_of result ≡ with_corner k v (tri_of t) }
-{
-    match k {
-        0 => Triangle { a: v, ..t },
-        1 => Triangle { b: v, ..t },
-        _ => Triangle { c: v, ..t },
+    Room {
+        triangles: triangles.min(MAX_TRIANGLES as usize) as u32,
+        vertices: vertices.min(MAX_VERTICES as usize) as u32,
     }
 }
 
-pub(crate) fn corner_fits(vertices: usize, k: u8, v: u32, t: Triangle) -> bool
-    ensures { result ≡ corner_fits vertices k v (tri_of t) }
+// Whether a vertex with this parent may be added, where there is room for so many.
+pub(crate) fn may_add_vertex<S: ReadingSurface>(store: &S, room: u32, parent: u32) -> bool
+    ensures { result ≡ may_add_vertex room (S.mesh store.now) parent }
 {
-    k < 3 && (v as usize) < vertices && different(with_corner(t, k, v))
+    let n = store.vertex_count();
+    n < room && parent <= n
+}
+
+// Whether the triangle may be added, where there is room for so many.
+pub(crate) fn may_add_triangle<S: ReadingSurface>(store: &S, room: u32, t: Triangle) -> bool
+    ensures { result ≡ may_add_triangle room (S.mesh store.now) (tri_of t) }
+{
+    store.triangle_count() < room && t.is_below(store.vertex_count()) && t.has_different_corners()
+}
+
+// Whether this corner of triangle t may become v.
+pub(crate) fn may_replace_corner<S: ReadingSurface>(store: &S, t: u32, corner: u8, v: u32) -> bool
+    ensures { result ≡ may_replace_corner (S.mesh store.now) t corner v }
+{
+    store.triangle(t).is_some_and(|old| {
+        corner < 3 && v < store.vertex_count() && old.with_corner(corner, v).has_different_corners()
+    })
+}
+
+// Whether there is a vertex v, whose place may be another.
+pub(crate) fn may_replace_place<S: ReadingSurface>(store: &S, v: u32) -> bool
+    ensures { result ≡ may_replace_place (S.mesh store.now) v }
+{
+    v < store.vertex_count()
 }

@@ -12,7 +12,6 @@ mod list;
 mod list_growing;
 mod list_reading;
 mod record;
-mod stored;
 
 pub use chain::ChainStore;
 pub use chain_record::{ChainCorner, ChainTriangle, ChainVertex};

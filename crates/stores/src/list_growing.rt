@@ -4,12 +4,11 @@ ghost use Rattle.mesh.specs.Meshes.{mesh_of};
 ghost use Rattle.stores.specs.Listed.{list_mesh, list_vertex_room, list_triangle_room, list_room_limited};
 
 use crate::fits::{
-    corner_fits, triangle_fits, triangle_room, vertex_fits, vertex_room, with_corner,
+    may_add_triangle, may_add_vertex, may_replace_corner, may_replace_place, room_of,
 };
 use crate::list::ListStore;
 use crate::record::VertexRecord;
-use crate::stored::stored_vertex;
-use mesh::{GrowingStore, Triangle};
+use mesh::{GrowingStore, Room, Triangle};
 use place::Place;
 use std::marker::PhantomData;
 
@@ -37,56 +36,44 @@ impl<'a, P: Place> GrowingStore for ListStore<'a, P> {
 
     ghost room_limited = { list_room_limited };
 
-    fn vertex_capacity(&self) -> u32 {
-        vertex_room(self.vertices.len()) as u32
-    }
-
-    fn triangle_capacity(&self) -> u32 {
-        triangle_room(self.triangles.len()) as u32
+    fn room(&self) -> Room {
+        room_of(self.triangles.len(), self.vertices.len())
     }
 
     fn add_vertex(&mut self, place: P, parent: u32) -> bool {
-        let n = self.vertex_count;
-        let room = vertex_room(self.vertices.len());
-        if !vertex_fits(room, n, parent) {
+        if !may_add_vertex(self, self.room().vertices, parent) {
             return false;
         }
-        self.vertices[n] = stored_vertex(place, parent);
-        self.vertex_count = n + 1;
+        self.vertices[self.vertex_count as usize] = VertexRecord::new(place, parent);
+        self.vertex_count += 1;
         true
     }
 
     fn add_triangle(&mut self, t: Triangle) -> bool {
-        let n = self.triangle_count;
-        let room = triangle_room(self.triangles.len());
-        if !triangle_fits(room, n, self.vertex_count, t) {
+        if !may_add_triangle(self, self.room().triangles, t) {
             return false;
         }
-        self.triangles[n] = t;
-        self.triangle_count = n + 1;
+        self.triangles[self.triangle_count as usize] = t;
+        self.triangle_count += 1;
         true
     }
 
     fn replace_corner(&mut self, t: u32, corner: u8, v: u32) -> bool {
+        if !may_replace_corner(self, t, corner, v) {
+            return false;
+        }
         let i = t as usize;
-        if i >= self.triangle_count {
-            return false;
-        }
-        let old = self.triangles[i];
-        if !corner_fits(self.vertex_count, corner, v, old) {
-            return false;
-        }
-        self.triangles[i] = with_corner(old, corner, v);
+        self.triangles[i] = self.triangles[i].with_corner(corner, v);
         true
     }
 
     fn replace_place(&mut self, v: u32, place: P) -> bool {
-        let i = v as usize;
-        if i >= self.vertex_count {
+        if !may_replace_place(self, v) {
             return false;
         }
+        let i = v as usize;
         let parent = self.vertices[i].parent;
-        self.vertices[i] = stored_vertex(place, parent);
+        self.vertices[i] = VertexRecord::new(place, parent);
         true
     }
 }

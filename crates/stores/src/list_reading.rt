@@ -2,7 +2,6 @@
 ghost use Rattle.stores.specs.Listed.{list_mesh, list_limited};
 
 use crate::list::ListStore;
-use crate::stored::stored_place;
 use mesh::{ReadingSurface, Triangle};
 use place::Place;
 
@@ -14,47 +13,29 @@ impl<'a, P: Place> ReadingSurface for ListStore<'a, P> {
     ghost limited = { list_limited P.Place.kind };
 
     fn vertex_count(&self) -> u32 {
-        self.vertex_count as u32
+        self.vertex_count
     }
 
     fn triangle_count(&self) -> u32 {
-        self.triangle_count as u32
+        self.triangle_count
     }
 
     fn triangle(&self, t: u32) -> Option<Triangle> {
-        let i = t as usize;
-        if i < self.triangle_count {
-            Some(self.triangles[i])
-        } else {
-            None
-        }
+        self.triangles_in_use().get(t as usize).copied()
     }
 
     fn place(&self, v: u32) -> Option<P> {
-        let i = v as usize;
-        if i >= self.vertex_count {
-            return None;
-        }
-        let stored = self.vertices[i];
-        Some(stored_place(&stored))
+        self.vertices_in_use().get(v as usize).map(|r| r.place())
     }
 
     fn parent(&self, v: u32) -> Option<u32> {
-        let i = v as usize;
-        if i < self.vertex_count {
-            Some(self.vertices[i].parent)
-        } else {
-            None
-        }
+        self.vertices_in_use().get(v as usize).map(|r| r.parent)
     }
 
     fn side(&self, u: u32, v: u32) -> Option<u32> {
-        for i in 0..self.triangle_count {
-            let t = self.triangles[i];
-            if t.side_corner(u, v).is_some() {
-                return Some(i as u32);
-            }
-        }
-        None
+        self.triangles_in_use()
+            .iter()
+            .position(|t| t.side_corner(u, v).is_some())
+            .map(|i| i as u32)
     }
 }

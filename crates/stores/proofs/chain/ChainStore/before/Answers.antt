@@ -1,35 +1,29 @@
-use Rattle.std.proofs.Common.{◌-◌, ◌*◌, ◌<◌, ◌≤◌, eqb, ltb, length, ap, ◌∙◌, arith, rules}
-use Rattle.std.proofs.lemmas.Bool.{and_from, lt-ltb, eq-eqb}
-use Rattle.stores.specs.Chains.{one, vertex_at}
-use Rattle.stores.proofs.Rests.{rest_falls}
-use Rattle.stores.proofs.Seeking.{seek_starts, seek_on, seek_low, seek_more, seek_here}
+use Rattle.std.proofs.Common.{◌*◌, not, eqb, None, sym, refl, ap, ◌∙◌, arith, rules}
+use borrow.Author.Tests.{tests}
+use Rattle.std.specs.List.{last_or}
+use Rattle.std.proofs.lemmas.List.{map-id}
+use Rattle.std.proofs.lemmas.Iterator.{items_from_drains}
+use Rattle.std.proofs.lemmas.Iterator.Consumers.{YieldsList-at, YieldsList-from_first}
+use Rattle.std.proofs.lemmas.Iterator.Search.{YieldsList-from_take_while}
+use Rattle.stores.specs.Chains.{walk, vertex_at, next_at, first_at}
+use Rattle.stores.specs.Walks.{corners_left}
+use Rattle.stores.proofs.Seeking.{before_last}
 use Rattle.stores.proofs.chain.ChainStore.before.Goals as goal
 
-pub loop-link-init : goal.loop-link-init
-loop-link-init g c =
-    let s = c.args.self.now in
-    let n = 3 * s.triangle_count in
-    let i = c.args.i in
-    let v = c.args.v in
-    let rs = s.tables.triangles.now in
-    let t = s.holds v c.requires.vertex i ∙ ap one (and_from (ltb i n) (eqb (vertex_at rs i) v) (lt-ltb i n c.requires.corner) (eq-eqb (vertex_at rs i) v c.requires.there)) in
-    seek_starts rs n _ v i (s.ends v c.requires.vertex) (s.holds v c.requires.vertex) (omega (arith, t))
-
-pub corner-link-requires : goal.corner-link-requires
-corner-link-requires g c =
-    let s = c.args.self.now in
-    let k : s.triangle_count ≤ length s.tables.triangles.now = search rules in
-    let h : c.loop-link.link - 1 < 3 * s.triangle_count = seek_low _ _ _ _ _ _ _ c.loop-link.invariant in
-    omega arith
-
-pub returns-then-j-i : goal.returns-then-j-i
-returns-then-j-i g c = seek_here _ _ _ _ _ _ _ c.loop-link.invariant c.if-j-i.true
-
-pub loop-link-preserved : goal.loop-link-preserved
-loop-link-preserved g c = seek_more _ _ _ _ _ _ _ _ c.loop-link.invariant c.if-j-i.false (ap (λ x. x.next) c.corner-link.ensures)
-
-pub loop-link-smaller : goal.loop-link-smaller
-loop-link-smaller g c = rest_falls _ _ _ _ c.loop-link.invariant.left c.loop-link-test.true (ap (λ x. x.next) c.corner-link.ensures)
+pub corners_at-requires : goal.corners_at-requires
+corners_at-requires g c = omega (arith, c.args.self.now.placed c.args.i c.requires, ap (λ z. z.vertex) c.corner-v.ensures)
 
 pub returns : goal.returns
-returns g c = absurd (seek_on _ _ _ _ _ _ _ c.loop-link.invariant c.loop-link-test.false)
+returns g c =
+    let s = c.args.self.now in
+    let n = 3 * s.triangle_count in
+    let rs = s.tables.triangles.now in
+    let v = vertex_at rs c.args.i in
+    let h = first_at s.tables.vertices.now v in
+    let l = s.placed c.args.i c.requires in
+    let here = ap (λ z. walk n (next_at rs) (first_at s.tables.vertices.now z.vertex)) c.corner-v.ensures in
+    let r = c.last.ensures.ran in
+    before_last n rs h v c.args.i c.last.result (s.ends v l) (s.holds v l) c.requires refl
+    (r.2 ∙ ap (last_or None) (sym (map-id r.0) ∙ items_from_drains r.0 (r.1.1.0, r.1.1.1, λ z. (r.1.0, r.1.1.2))
+    (YieldsList-from_take_while _ (λ j. not (eqb j c.args.i)) (YieldsList-at c.take_while.ensures.source (YieldsList-from_first (λ x. x) corners_left (walk n (next_at rs) h) (c.corners_at.ensures ∙ here)))
+    c.take_while.ensures.closure c.take_while.ensures.done (λ x b q k. search (rules, tests)))))

@@ -1,80 +1,60 @@
-use Rattle.std.proofs.Common.{◌*◌, ◌≤◌, min, length, sym, refl, ap, ◌∙◌, arith, rules}
-use Rattle.mesh.specs.Growth.{corner_fits}
-use Rattle.stores.specs.Chains.{no_triangle, corners_in}
-use Rattle.stores.specs.Chained.{chained_in}
-use Rattle.stores.proofs.Growing.{same_mesh, corner_fits_past, corner_answer}
-use Rattle.stores.proofs.Stages.{Kept}
-use Rattle.stores.proofs.Moved.{may, moved}
+use Rattle.std.proofs.Common.{length, ap, ◌∙◌, arith}
+use Rattle.mesh.specs.Growth.{with_corner, changed}
+use Rattle.stores.specs.Records.{front}
+use Rattle.stores.specs.Chains.{corners_in}
+use Rattle.stores.proofs.Growing.{same_mesh}
+use Rattle.stores.proofs.Grown.{corner_moves, corner_moved}
+use Rattle.stores.proofs.Moved.{relinked_long, refirsted_tall}
 use Rattle.stores.proofs.chain_growing.ChainStoreGrowingStore.replace_corner.Goals as goal
 
-pub returns-then-i-self : goal.returns-then-i-self
-returns-then-i-self g c = record { answer = search (rules, corner_fits_past); after = refl; room = (refl, refl) }
-
-pub returns-then-not-corner_fits : goal.returns-then-not-corner_fits
-returns-then-not-corner_fits g c =
+pub before-before-requires : goal.before-before-requires
+before-before-requires g c =
     let s = c.args.self.now in
-    let rs = s.tables.triangles.now in
-    let vs = s.tables.vertices.now in
-    let h : s.triangle_count ≤ length rs = search rules in
-    let l : s.vertex_count ≤ length vs = search rules in
-    let fit = sym (c.corner_fits.ensures ∙ ap (corner_fits s.vertex_count c.args.corner c.args.v) c.triangle-old.ensures) ∙ c.if-not-corner_fits.true in
-    record {
-      answer = corner_answer corners_in (chained_in g.P.Place.kind) _ _ rs vs c.args.t c.args.corner c.args.v no_triangle _ fit c.if-i-self.false h l;
-      after = refl;
-      room = (refl, refl);
-    }
+    let w = corner_moves g.P.Place.kind s c.args.t c.args.corner c.from.result c.args.v _ c.if-not-may_replace_corner.false c.may_replace_corner.ensures c.from.ensures in
+    omega (arith, w.one, w.corner)
 
-pub unlink-requires : goal.unlink-requires
-unlink-requires g c =
+pub unlink-requires-clause-within : goal.unlink-requires-clause-within
+unlink-requires-clause-within g c =
     let s = c.args.self.now in
-    let n = s.triangle_count in
-    let m = s.vertex_count in
-    let rs = s.tables.triangles.now in
-    let vs = s.tables.vertices.now in
-    let h : n ≤ length rs = search rules in
-    let l : m ≤ length vs = search rules in
-    let fit = sym (c.corner_fits.ensures ∙ ap (corner_fits m c.args.corner c.args.v) c.triangle-old.ensures) ∙ c.if-not-corner_fits.false in
-    let q = may n m c.args.t c.args.corner c.args.v c.corner-from.result c.before-before.result rs vs (record { placed = s.placed; ends = s.ends; holds = s.holds }) c.if-i-self.false h fit c.corner-from.ensures c.before-before.ensures in
-    record { within = omega (arith, q.corner, c.if-i-self.false); prior = search (rules, q.within); there = omega (arith, q.low) }
+    let w = corner_moves g.P.Place.kind s c.args.t c.args.corner c.from.result c.args.v _ c.if-not-may_replace_corner.false c.may_replace_corner.ensures c.from.ensures in
+    omega (arith, w.one, w.corner, s.triangles_fit)
+
+pub unlink-requires-clause-there : goal.unlink-requires-clause-there
+unlink-requires-clause-there g c =
+    let s = c.args.self.now in
+    let w = corner_moves g.P.Place.kind s c.args.t c.args.corner c.from.result c.args.v _ c.if-not-may_replace_corner.false c.may_replace_corner.ensures c.from.ensures in
+    omega (arith, w.low, s.vertices_fit)
+
+pub link-requires-clause-within : goal.link-requires-clause-within
+link-requires-clause-within g c =
+    let s = c.args.self.now in
+    let w = corner_moves g.P.Place.kind s c.args.t c.args.corner c.from.result c.args.v _ c.if-not-may_replace_corner.false c.may_replace_corner.ensures c.from.ensures in
+    omega (arith, w.one, w.corner, s.triangles_fit, ap length c.unlink.ensures.corners, relinked_long)
+
+pub link-requires-clause-small : goal.link-requires-clause-small
+link-requires-clause-small g c =
+    let s = c.args.self.now in
+    let w = corner_moves g.P.Place.kind s c.args.t c.args.corner c.from.result c.args.v _ c.if-not-may_replace_corner.false c.may_replace_corner.ensures c.from.ensures in
+    omega (arith, w.one, w.corner, s.triangles_fit)
+
+pub link-requires-clause-there : goal.link-requires-clause-there
+link-requires-clause-there g c =
+    let s = c.args.self.now in
+    let w = corner_moves g.P.Place.kind s c.args.t c.args.corner c.from.result c.args.v _ c.if-not-may_replace_corner.false c.may_replace_corner.ensures c.from.ensures in
+    omega (arith, w.vertex, s.vertices_fit, ap length c.unlink.ensures.firsts, refirsted_tall)
 
 pub invariant_of-self : goal.invariant_of-self
 invariant_of-self g c =
     let s = c.args.self.now in
-    let n = s.triangle_count in
-    let m = s.vertex_count in
-    let rs = s.tables.triangles.now in
-    let vs = s.tables.vertices.now in
-    let h : n ≤ length rs = search rules in
-    let l : m ≤ length vs = search rules in
-    let k : Kept (3 * n) m rs vs = record { placed = s.placed; ends = s.ends; holds = s.holds } in
-    let fit = sym (c.corner_fits.ensures ∙ ap (corner_fits m c.args.corner c.args.v) c.triangle-old.ensures) ∙ c.if-not-corner_fits.false in
-    let q = may n m c.args.t c.args.corner c.args.v c.corner-from.result c.before-before.result rs vs k c.if-i-self.false h fit c.corner-from.ensures c.before-before.ensures in
-    let a = moved (chained_in g.P.Place.kind) (λ r h. refl) n m c.args.t c.args.corner c.args.v _ c.before-before.result rs _ _ vs _ _ k c.if-i-self.false h l q
+    let w = corner_moves g.P.Place.kind s c.args.t c.args.corner c.from.result c.args.v _ c.if-not-may_replace_corner.false c.may_replace_corner.ensures c.from.ensures in
+    let a = corner_moved g.P.Place.kind s c.args.t c.from.result c.args.v c.before-before.result w c.before-before.ensures
     c.unlink.ensures.corners c.unlink.ensures.firsts c.link.ensures.corners c.link.ensures.firsts in
-    record {
-      triangles_fit = omega (arith, s.triangles_fit, a.long);
-      vertices_fit = omega (arith, s.vertices_fit, a.tall);
-      placed = a.kept.placed;
-      ends = a.kept.ends;
-      holds = a.kept.holds;
-    }
+    record { triangles_fit = omega (arith, s.triangles_fit, a.long); vertices_fit = omega (arith, s.vertices_fit, a.tall); placed = a.kept.placed; ends = a.kept.ends; holds = a.kept.holds }
 
-pub returns : goal.returns
-returns g c =
+pub returns-clause-after : goal.returns-clause-after
+returns-clause-after g c =
     let s = c.args.self.now in
-    let n = s.triangle_count in
-    let m = s.vertex_count in
-    let rs = s.tables.triangles.now in
-    let vs = s.tables.vertices.now in
-    let h : n ≤ length rs = search rules in
-    let l : m ≤ length vs = search rules in
-    let k : Kept (3 * n) m rs vs = record { placed = s.placed; ends = s.ends; holds = s.holds } in
-    let fit = sym (c.corner_fits.ensures ∙ ap (corner_fits m c.args.corner c.args.v) c.triangle-old.ensures) ∙ c.if-not-corner_fits.false in
-    let q = may n m c.args.t c.args.corner c.args.v c.corner-from.result c.before-before.result rs vs k c.if-i-self.false h fit c.corner-from.ensures c.before-before.ensures in
-    let a = moved (chained_in g.P.Place.kind) (λ r h. refl) n m c.args.t c.args.corner c.args.v _ c.before-before.result rs _ _ vs _ _ k c.if-i-self.false h l q
+    let w = corner_moves g.P.Place.kind s c.args.t c.args.corner c.from.result c.args.v _ c.if-not-may_replace_corner.false c.may_replace_corner.ensures c.from.ensures in
+    let a = corner_moved g.P.Place.kind s c.args.t c.from.result c.args.v c.before-before.result w c.before-before.ensures
     c.unlink.ensures.corners c.unlink.ensures.firsts c.link.ensures.corners c.link.ensures.firsts in
-    record {
-      answer = corner_answer corners_in (chained_in g.P.Place.kind) _ _ rs vs c.args.t c.args.corner c.args.v no_triangle _ fit c.if-i-self.false h l;
-      after = same_mesh a.triangles a.vertices;
-      room = (ap (λ z. min z 16384) a.tall, ap (λ z. min z 32768) a.long);
-    }
+    same_mesh (a.triangles ∙ ap (λ k. changed (with_corner k c.args.v) c.args.t (front corners_in s.triangle_count s.tables.triangles.now)) c.from.ensures) a.vertices

@@ -1,21 +1,17 @@
-use Rattle.std.proofs.Common.{◌≤◌, length, is_some, sym, ap, ◌∙◌, rules}
+use Rattle.std.proofs.Common.{◌≡◌, is_some, take, ◌∙◌, rules}
+use borrow.Author.Tests.{tests}
+use Rattle.std.proofs.lemmas.Iterator.{YieldsList-from_slice}
+use Rattle.std.proofs.lemmas.Iterator.Adapters.{position_from-zero}
+use Rattle.std.proofs.lemmas.Iterator.Search.{position_from_yields_List}
 use Rattle.mesh.specs.Triangles.{tri_of}
-use Rattle.stores.proofs.Searching.{search_more, search_here, search_all}
+use Rattle.mesh.specs.Sides.{corner_of}
+use Rattle.stores.proofs.Searching.{side_position}
 use Rattle.stores.proofs.list_reading.ListStoreReadingSurface.side.Goals as goal
 
-pub returns-then-is_some : goal.returns-then-is_some
-returns-then-is_some g c =
-    let s = c.args.self.now in
-    let k : s.triangle_count ≤ length s.triangles.now = search rules in
-    let b = sym (ap is_some c.side_corner.ensures) ∙ sym c.is_some.ensures ∙ c.if-is_some.true in
-    sym (search_here tri_of c.args.u c.args.v s.triangle_count s.triangles.now c.loop-i.i _ c.loop-i-test.true k b) ∙ c.loop-i.invariant
-
-pub loop-i-preserved : goal.loop-i-preserved
-loop-i-preserved g c =
-    let s = c.args.self.now in
-    let k : s.triangle_count ≤ length s.triangles.now = search rules in
-    let b = sym (ap is_some c.side_corner.ensures) ∙ sym c.is_some.ensures ∙ c.if-is_some.false in
-    sym (search_more tri_of c.args.u c.args.v s.triangle_count s.triangles.now c.loop-i.i _ c.loop-i-test.true k b) ∙ c.loop-i.invariant
-
 pub returns : goal.returns
-returns g c = search (rules, search_all)
+returns g c =
+    let s = c.args.self.now in
+    let ts = take s.triangle_count s.triangles.now in
+    let p = position_from_yields_List (λ t. is_some (corner_of c.args.u c.args.v (tri_of t))) _ _ c.position.result c.position.ensures.ran (YieldsList-from_slice ts (c.iter.ensures.rest ∙ c.triangles_in_use.ensures)) (λ x b q k. search (rules, tests)) in
+    let m : c.map.result ≡ c.position.result = search rules in
+    m ∙ p ∙ position_from-zero (λ t. is_some (corner_of c.args.u c.args.v (tri_of t))) ts ∙ side_position tri_of c.args.u c.args.v 0 ts

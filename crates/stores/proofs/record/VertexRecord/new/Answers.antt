@@ -1,6 +1,6 @@
 use Rattle.std.proofs.Common.{unwrap_or, ap, ◌∙◌}
 use Rattle.mesh.specs.Meshes.{vertex_of}
-use Rattle.stores.proofs.stored.stored_vertex.Goals as goal
+use Rattle.stores.proofs.record.VertexRecord.new.Goals as goal
 
 pub returns : goal.returns
 returns g c =

@@ -1,6 +1,0 @@
-use Rattle.std.proofs.Common.{rules}
-use Rattle.stores.proofs.Fronts.{length_front}
-use Rattle.stores.proofs.chain_reading.ChainStoreReadingSurface.vertex_count.Goals as goal
-
-pub returns : goal.returns
-returns g c = search (rules, length_front)
