@@ -12,7 +12,7 @@ use Rattle.mesh.specs.Triangles.{Tri, tri}
 use Rattle.mesh.specs.Rings.{Corner, at_first, at_second, at_third, Link, here, there}
 use Rattle.mesh.specs.Closed.{Closed}
 use Rattle.mesh.specs.Limits.{counts_fault}
-use Rattle.mesh.specs.Meshes.{Mesh, Vertex, InLimits, vertex_of, vertex_total, triangle_total}
+use Rattle.mesh.specs.Meshes.{Mesh, Vertex, InLimits, vertex_of, vertex_total, triangle_total, places}
 use Rattle.mesh.proofs.Tests.{some_inj, none_some}
 use Rattle.mesh.proofs.Bounds.{between_is, counts_none}
 use Rattle.survey.specs.Theorems.{ClosedInLimits}
@@ -20,7 +20,7 @@ use Rattle.survey.proofs.Exact.{closed_survey}
 use Rattle.sheet.specs.Layout.{sheet_size, triangle_offset}
 use Rattle.sheet.specs.Content.{triangle_from, place_read, sheet_mesh, LaidOut}
 use Rattle.sheet.specs.Writing.{rows, vertex_bytes, triangle_bytes, body_bytes, sheet_bytes}
-use Rattle.sheet.specs.ReadBack.{own_from, own, places, Numbered, Writable, ReadsBack, SheetsReadBack}
+use Rattle.sheet.specs.ReadBack.{own_from, own, Numbered, Writable, ReadsBack, SheetsReadBack}
 use Rattle.sheet.proofs.Exact.{there_value, no_fault, same_mesh}
 use Rattle.sheet.proofs.Rows.{rows_at}
 use Rattle.sheet.proofs.Written.{triangle_long, small_size, places_length, body_length, sheet_length}

@@ -1,33 +1,26 @@
 -- A sheet has no fault exactly if it is laid out as that of a mesh.
 use Rattle.std.proofs.Common.{◌≡◌, ℕ, ◌<◌, ◌≤◌, Bool, true, false, not, List, length, is_some, Some, None, Option, unwrap_or, sym, refl, ap, ◌∙◌, arith, eq-eqb, le-leb}
-use borrow.Author.Tests.{clash}
 use Rattle.std.specs.List.{slice_get}
 use Rattle.std.specs.Option.{option_map}
+use Rattle.std.proofs.lemmas.Bool.{and_from}
 use Rattle.fault.specs.declared.fault.Fault.{Fault}
 use Rattle.fault.specs.declared.fault.Fault.TheVariants.{NoPlace}
 use Rattle.fault.proofs.Orders.{or_none, none_or, mapped_none}
 use Rattle.place.specs.Kinds.{Kind}
 use Rattle.mesh.specs.Limits.{counts_fault}
 use Rattle.mesh.specs.Meshes.{Mesh, Vertex, mesh_of, vertex_of, vertex_total, triangle_total}
-use Rattle.mesh.proofs.Tests.{true_and, some_inj, none_some, some_there}
+use Rattle.mesh.proofs.Tests.{some_inj, none_some, some_there}
 use Rattle.mesh.proofs.Firsts.{first_none, none_first}
-use Rattle.mesh.proofs.Indexed.{length_counted, counted_there, same_lists}
+use Rattle.std.proofs.lemmas.List.FromFn.{length-map-range_with_len}
+use Rattle.mesh.proofs.Indexed.{counted_there, same_items}
 use Rattle.sheet.specs.Layout.{vertices_of, triangles_of, triangle_offset, sheet_size, unless, length_fault, version_fault, head_fault, layout_fault}
-use Rattle.sheet.specs.Content.{triangle_from, triangle_in, place_read, vertex_in, count_unless, vertices_in, triangles_in, sheet_mesh, no_place, place_fault, sheet_fault, LaidOut}
+use Rattle.sheet.specs.Content.{triangle_from, triangle_in, place_read, vertex_in, vertices_in, triangles_in, sheet_mesh, no_place, place_fault, sheet_fault, LaidOut}
 use Rattle.sheet.specs.Bounds.{right}
 use Rattle.sheet.specs.Opening.{SheetExact}
-
--- with a right layout the counts are those of the fields
-pub vertices_are : {P D : Type 0} (k : Kind P D) (bs : List ℕ) → layout_fault k bs ≡ None → vertices_in k bs ≡ vertices_of bs
-unfolding vertices_in
-vertices_are k bs e = ap (λ (o : Option Fault). count_unless o (vertices_of bs)) e
-
-pub triangles_are : {P D : Type 0} (k : Kind P D) (bs : List ℕ) → layout_fault k bs ≡ None → triangles_in k bs ≡ triangles_of bs
-unfolding triangles_in
-triangles_are k bs e = ap (λ (o : Option Fault). count_unless o (triangles_of bs)) e
+use Rattle.sheet.proofs.Fields.{vertices_right, triangles_right}
 
 value_some : {P : Type 0} (o : Option P) (d : P) → not (is_some o) ≡ false → o ≡ Some (unwrap_or o d)
-value_some None d e = absurd (clash (sym e))
+value_some None d e = absurd (cc)
 value_some (Some p) d e = refl
 
 -- every place of a sheet without fault reads
@@ -43,12 +36,12 @@ pub laid_out : {P D : Type 0} (k : Kind P D) (bs : List ℕ) → sheet_fault k b
 laid_out {P} k bs e =
     let a = or_none (layout_fault k bs) _ e in
     let r = right k bs a.0 in
-    let v = length_counted (vertex_in k bs) (vertices_in k bs) in
-    let t = length_counted (triangle_in k.width bs) (triangles_in k bs) in
-    let p = vertices_are k bs a.0 in
-    let q = triangles_are k bs a.0 in
-    let vs : vertices_of bs ≡ vertex_total (sheet_mesh k bs) = sym (v ∙ p) in
-    let ts : triangles_of bs ≡ triangle_total (sheet_mesh k bs) = sym (t ∙ q) in
+    let v = length-map-range_with_len (vertex_in k bs) 0 (vertices_in k bs) in
+    let t = length-map-range_with_len (triangle_in k.width bs) 0 (triangles_in k bs) in
+    let p = vertices_right k bs (vertices_of bs) a.0 refl in
+    let q = triangles_right k bs (triangles_of bs) a.0 refl in
+    let vs : vertices_of bs ≡ vertex_total (sheet_mesh k bs) = p ∙ sym v in
+    let ts : triangles_of bs ≡ triangle_total (sheet_mesh k bs) = q ∙ sym t in
     record {
       length_field = r.length_field;
       version = r.version;
@@ -75,12 +68,9 @@ laid_right k bs m c l =
     ap (λ (n : ℕ). sheet_size k.width n (triangles_of bs)) v ∙ (ap (λ (n : ℕ). sheet_size k.width (vertex_total m) n) t ∙ l.size) in
     let long : 14 ≤ length bs = omega arith in
     none_or (head_fault k.byte bs) _
-    (none_or (length_fault bs) _ (unless_true _ _ (true_and _ _ (le-leb 14 (length bs) long) (eq-eqb _ _ l.length_field)))
+    (none_or (length_fault bs) _ (unless_true _ _ (and_from _ _ (le-leb 14 (length bs) long) (eq-eqb _ _ l.length_field)))
     (none_or (version_fault bs) _ (unless_true _ _ (eq-eqb _ _ l.version)) (unless_true _ _ (eq-eqb _ _ l.kind))))
     (none_or (counts_fault (vertices_of bs) (triangles_of bs)) _ (ap (λ (n : ℕ). counts_fault n (triangles_of bs)) v ∙ (ap (counts_fault (vertex_total m)) t ∙ c)) (unless_true _ _ (eq-eqb _ _ size)))
-
-some_is : {P : Type 0} (o : Option P) (p : P) → o ≡ Some p → not (is_some o) ≡ false
-some_is o p e = ap (λ x. not (is_some x)) e
 
 -- a vertex by its place and parent
 vertex_is : {P : Type 0} (o : Option (Vertex P)) (p : P) (n : ℕ) → option_map (λ x. x.place) o ≡ Some p → option_map (λ x. x.parent) o ≡ Some n → o ≡ Some (vertex_of p n)
@@ -99,10 +89,10 @@ module _ {P D : Type 0} (k : Kind P D) (bs : List ℕ) (m : Mesh P) (c : counts_
   fine = laid_right k bs m c l
 
   vertex_count : vertices_in k bs ≡ vertex_total m
-  vertex_count = vertices_are k bs fine ∙ l.vertices
+  vertex_count = sym (vertices_right k bs (vertices_of bs) fine refl) ∙ l.vertices
 
   triangle_count : triangles_in k bs ≡ triangle_total m
-  triangle_count = triangles_are k bs fine ∙ l.triangles
+  triangle_count = sym (triangles_right k bs (triangles_of bs) fine refl) ∙ l.triangles
 
   read_is : (v : ℕ) → v < vertex_total m → (p : P) × (place_read k bs v ≡ Some p) × (slice_get m.vertices v ≡ Some (vertex_of p v))
   read_is v h =
@@ -112,9 +102,9 @@ module _ {P D : Type 0} (k : Kind P D) (bs : List ℕ) (m : Mesh P) (c : counts_
 
   vertices_same : (sheet_mesh k bs).vertices ≡ m.vertices
   vertices_same =
-      let n = length_counted (vertex_in k bs) (vertices_in k bs) in
+      let n = length-map-range_with_len (vertex_in k bs) 0 (vertices_in k bs) in
       let q = vertex_count in
-      same_lists (sheet_mesh k bs).vertices m.vertices (omega arith) (λ v h.
+      same_items (sheet_mesh k bs).vertices m.vertices (omega arith) (λ v h.
       let low : v < vertices_in k bs = omega arith in
       let high : v < vertex_total m = omega arith in
       let r = read_is v high in
@@ -122,9 +112,9 @@ module _ {P D : Type 0} (k : Kind P D) (bs : List ℕ) (m : Mesh P) (c : counts_
 
   triangles_same : (sheet_mesh k bs).triangles ≡ m.triangles
   triangles_same =
-      let n = length_counted (triangle_in k.width bs) (triangles_in k bs) in
+      let n = length-map-range_with_len (triangle_in k.width bs) 0 (triangles_in k bs) in
       let q = triangle_count in
-      same_lists (sheet_mesh k bs).triangles m.triangles (omega arith) (λ t h.
+      same_items (sheet_mesh k bs).triangles m.triangles (omega arith) (λ t h.
       let low : t < triangles_in k bs = omega arith in
       let high : t < triangle_total m = omega arith in
       counted_there (triangle_in k.width bs) (triangles_in k bs) t low ∙ (ap (λ (x : ℕ). Some (triangle_from bs (triangle_offset k.width x t))) l.vertices ∙ sym (l.triangle t high)))
@@ -133,7 +123,7 @@ module _ {P D : Type 0} (k : Kind P D) (bs : List ℕ) (m : Mesh P) (c : counts_
   no_fault = none_or (layout_fault k bs) (place_fault k bs) fine (read_places k bs (λ v h.
       let q = vertex_count in
       let high : v < vertex_total m = omega arith in
-      let r = read_is v high in some_is (place_read k bs v) r.0 r.1))
+      ap (λ o. not (is_some o)) (read_is v high).1))
 
   pub same_mesh : sheet_mesh k bs ≡ m
   same_mesh = ap (λ ts. mesh_of ts (sheet_mesh k bs).vertices) triangles_same ∙ ap (mesh_of m.triangles) vertices_same

@@ -1,26 +1,21 @@
 -- What is written for each item of a list, one after another.
-use Rattle.std.proofs.Common.{◌≡◌, ℕ, zero, suc, ◌+◌, ◌*◌, ◌<◌, ◌≤◌, true, List, [], ◌∷◌, ◌++◌, length, get_or, take, drop, Some, sym, refl, ap, ◌∙◌, subst, ⊎_elim, suc-mul, zero-mul, arith}
+use Rattle.std.proofs.Common.{◌≡◌, ℕ, zero, suc, ◌+◌, ◌*◌, ◌<◌, ◌≤◌, true, List, [], ◌∷◌, ◌++◌, length, take, drop, Some, sym, refl, ap, ◌∙◌, subst, ⊎_elim, suc-mul, zero-mul, arith}
 use Rattle.std.specs.List.{slice_get}
-use Rattle.std.proofs.lemmas.List.{append_assoc, append-nil, length-append, drop_at, drop-drop, take_more, take_all, length-take-le}
-use Rattle.std.proofs.lemmas.Option.{slice_get-get_or}
+use Rattle.std.proofs.lemmas.List.{append_assoc, append-nil, length-append, drop_at, drop-drop, take_all, length-take-le}
 use Rattle.place.specs.Kinds.{Kind}
 use Rattle.mesh.specs.Lists.{Mem}
 use Rattle.mesh.specs.Meshes.{Vertex}
 use Rattle.mesh.proofs.Members.{mem_cases, mem_split}
 use Rattle.mesh.proofs.Tests.{some_inj, none_some}
-use Rattle.mesh.proofs.Indexed.{rows_below}
+use Rattle.mesh.proofs.Indexed.{rows_below, take_next}
 use Rattle.sheet.specs.Writing.{rows, put_at}
 use Rattle.sheet.specs.ReadBack.{Held}
 use Rattle.sheet.proofs.Joins.{put_next}
 
--- the next item after the first i
-next_item : {X : Type 0} (xs : List X) (i : ℕ) (x : X) → i < length xs → slice_get xs i ≡ Some x → take (i + 1) xs ≡ take i xs ++ x ∷ []
-next_item {X} xs i x h e = let same : get_or xs i x ≡ x = some_inj (sym (slice_get-get_or xs i x h) ∙ e) in take_more xs i x h ∙ ap (λ (y : X). take i xs ++ y ∷ []) same
-
 -- what holds of the first i items and of the next one
 pub each_more : {X : Type 0} (Q : X → Type 0) (xs : List X) (i : ℕ) (x : X) → i < length xs → slice_get xs i ≡ Some x → ((y : X) → Mem y (take i xs) → Q y) → Q x → (y : X) → Mem y (take (i + 1) xs) → Q y
 each_more {X} Q xs i x h e f q y m =
-    let n : Mem y (take i xs ++ x ∷ []) = subst (λ (ys : List X). Mem y ys) (next_item xs i x h e) m in
+    let n : Mem y (take i xs ++ x ∷ []) = subst (λ (ys : List X). Mem y ys) (take_next xs i x e) m in
     ⊎_elim {C = Q y} (λ k. f y k) (λ k. ⊎_elim {C = Q y} (λ (s : y ≡ x). subst Q (sym s) q) (λ z. elim z [ ]) (mem_cases k)) (mem_split (take i xs) n)
 
 -- what holds of all the first n items, where there are n
@@ -41,7 +36,7 @@ module _ {X : Type 0} (f : X → List ℕ) where
 
   -- one row more
   pub rows_more : (xs : List X) (i : ℕ) (x : X) → i < length xs → slice_get xs i ≡ Some x → rows f (take (i + 1) xs) ≡ rows f (take i xs) ++ f x
-  rows_more xs i x h e = ap (rows f) (next_item xs i x h e) ∙ (rows_append (take i xs) (x ∷ []) ∙ ap (λ t. rows f (take i xs) ++ t) (append-nil (f x)))
+  rows_more xs i x h e = ap (rows f) (take_next xs i x e) ∙ (rows_append (take i xs) (x ∷ []) ∙ ap (λ t. rows f (take i xs) ++ t) (append-nil (f x)))
 
   -- all rows
   pub rows_all : (at n : ℕ) (xs : List X) (out end : List ℕ) → n ≡ length xs → end ≡ put_at at (rows f (take n xs)) out → end ≡ put_at at (rows f xs) out
@@ -66,7 +61,7 @@ module _ {X : Type 0} (f : X → List ℕ) where
     -- row i put behind the rows before it
     pub row_put : (at n i : ℕ) (xs : List X) (x : X) (out mid end : List ℕ) → i < length xs → slice_get xs i ≡ Some x → at + length xs * w ≤ length out → n ≡ at + i * w → mid ≡ put_at at (rows f (take i xs)) out → end ≡ put_at n (f x) mid → end ≡ put_at at (rows f (take (i + 1) xs)) out
     row_put at n i xs x out mid end h e room e' p q =
-        let i-rows : length (rows f (take i xs)) ≡ i * w = rows_length (take i xs) ∙ ap (λ (j : ℕ). j * w) (length-take-le i xs (omega arith)) in
+        let rows_before : length (rows f (take i xs)) ≡ i * w = rows_length (take i xs) ∙ ap (λ (j : ℕ). j * w) (length-take-le i xs (omega arith)) in
         let below = rows_below i (length xs) w h in
         let one = long x in
         put_next at n (rows f (take i xs)) (f x) out mid end (omega arith) (omega arith) p q ∙ ap (λ t. put_at at t out) (sym (rows_more xs i x h e))

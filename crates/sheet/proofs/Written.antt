@@ -1,5 +1,5 @@
 -- The parts that are put one after another are the sheet.
-use Rattle.std.proofs.Common.{◌≡◌, ℕ, ◌+◌, ◌*◌, ◌<◌, ◌≤◌, Bool, true, false, cond, leb, List, ◌++◌, length, drop, Some, None, Ok, Err, sym, refl, ap, ◌∙◌, arith}
+use Rattle.std.proofs.Common.{◌≡◌, ℕ, ◌+◌, ◌*◌, ◌<◌, ◌≤◌, Bool, true, false, cond, leb, List, ◌++◌, length, drop, Some, None, Ok, Err, sym, refl, ap, ◌∙◌, mul-le-mul_right, arith}
 use Rattle.std.proofs.lemmas.List.{append_assoc, length-append}
 use Rattle.std.proofs.lemmas.Bool.{leb-true, leb-false, le-leb, lt-leb}
 use Rattle.fault.specs.declared.fault.Fault.{Fault}
@@ -10,7 +10,6 @@ use Rattle.mesh.specs.Meshes.{Mesh, InLimits, vertex_total, triangle_total}
 use Rattle.mesh.proofs.Tests.{some_inj, none_some}
 use Rattle.sheet.specs.Layout.{sheet_size}
 use Rattle.sheet.specs.Writing.{rows, vertex_bytes, triangle_bytes, body_bytes, sheet_bytes, written_size, short_fault, sheet_written, sheet_after, put_at, head_bytes}
-use Rattle.sheet.proofs.Fields.{size_small}
 use Rattle.sheet.proofs.Joins.{put_next, put_front}
 use Rattle.sheet.proofs.Rows.{rows_length}
 
@@ -37,7 +36,10 @@ size_is k m n w V T e p q r = e ∙ (λ i. sheet_size (p i) (q i) (r i))
 
 module _ {P D : Type 0} (k : Kind P D) (law : Lawful k) (m : Mesh P) where
   pub small_size : InLimits m → written_size k m ≤ 589838
-  small_size l = size_small k.width (vertex_total m) (triangle_total m) law.narrow l.few_vertices l.few_triangles
+  small_size l =
+      let narrow = law.narrow in
+      let few = l.few_triangles in
+      let places = mul-le-mul_right k.width l.few_vertices in omega arith
 
   pub places_length : length (rows (vertex_bytes k) m.vertices) ≡ vertex_total m * k.width
   places_length = rows_length (vertex_bytes k) k.width (λ v. law.long v.place) m.vertices

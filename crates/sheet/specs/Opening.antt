@@ -2,13 +2,14 @@
 use Rattle.std.specs.Prelude.{◌≡◌, ℕ, List, Some, None, Ok, Err, Option, Result}
 use Rattle.fault.specs.declared.fault.Fault.{Fault}
 use Rattle.place.specs.Kinds.{Kind}
+use Rattle.place.specs.declared.kind.Place.{Ghosts}
 use Rattle.mesh.specs.Meshes.{Mesh, vertex_total, triangle_total}
 use Rattle.mesh.specs.Limits.{counts_fault}
 use Rattle.sheet.specs.declared.sheet.Sheet.{Sheet}
 use Rattle.sheet.specs.Content.{sheet_mesh, sheet_fault, LaidOut}
 
 -- the bytes that an opened sheet holds
-abbrev pub held_by : {P : Type 0} → Result (Sheet P) Fault → Result (List ℕ) Fault
+abbrev pub held_by : {P D : Type 0} {g : Ghosts P D} → Result (Sheet P D g) Fault → Result (List ℕ) Fault
 held_by (Ok s) = Ok s.bytes.now
 held_by (Err f) = Err f
 

@@ -1,12 +1,12 @@
 -- What the bytes of a written sheet read as.
-use Rattle.std.specs.Prelude.{◌≡◌, ℕ, suc, ◌^◌, ◌<◌, true, List, [], ◌∷◌, map, None, Ok, Err, Result}
+use Rattle.std.specs.Prelude.{◌≡◌, ℕ, suc, ◌^◌, ◌<◌, true, List, [], ◌∷◌, None, Ok, Err, Result}
 use Rattle.fault.specs.declared.fault.Fault.{Fault}
 use Rattle.place.specs.Kinds.{Kind}
 use Rattle.mesh.specs.Lists.{Mem}
 use Rattle.mesh.specs.Triangles.{Tri, tri}
 use Rattle.mesh.specs.Closed.{Closed}
 use Rattle.mesh.specs.Limits.{counts_fault}
-use Rattle.mesh.specs.Meshes.{Mesh, Vertex, InLimits, mesh_of, vertex_of, vertex_total, triangle_total}
+use Rattle.mesh.specs.Meshes.{Mesh, Vertex, InLimits, mesh_of, vertex_of, vertex_total, triangle_total, places}
 use Rattle.sheet.specs.Content.{sheet_mesh, sheet_fault, LaidOut}
 use Rattle.sheet.specs.Writing.{sheet_bytes}
 
@@ -18,10 +18,6 @@ own_from i (v ∷ vs) = vertex_of v.place i ∷ own_from (suc i) vs
 -- the mesh with the same places and triangles, every vertex its own parent
 abbrev pub own : {P : Type 0} → Mesh P → Mesh P
 own m = mesh_of m.triangles (own_from 0 m.vertices)
-
--- the places of the vertices, in order
-abbrev pub places : {P : Type 0} → Mesh P → List P
-places m = map (λ v. v.place) m.vertices
 
 -- every place is one that a program can hold
 abbrev pub Held : {P D : Type 0} → Kind P D → List (Vertex P) → Type 0

@@ -1,29 +1,28 @@
 // The checks of a sheet's bytes, in their order.
-ghost use Rattle.std.specs.Prelude.{◌≡◌, ◌+◌, ◌*◌, ◌≤◌, length, None};
-ghost use Rattle.sheet.specs.Layout.{vertices_of, triangles_of, sheet_size, head_fault, size_fault, layout_fault, capacity_fault};
-ghost use Rattle.sheet.specs.Content.{vertices_in, no_place, place_fault};
+ghost use Rattle.std.specs.Prelude.{◌≡◌, ◌≤◌, length};
+ghost use Rattle.fault.specs.Faults.{checked};
+ghost use Rattle.sheet.specs.Layout.{vertices_of, triangles_of, sheet_size, head_fault, size_fault, layout_fault};
 
-use crate::reads::word_at;
 use fault::Fault;
-use mesh::count_fault;
-use place::Place;
+use mesh::check_counts;
+use place::{Place, word_at};
 
 pub(crate) const HEAD: usize = 14;
 
-fn head_fault(kind: u8, bytes: &[u8]) -> Option<Fault>
-    ensures value { result ≡ head_fault kind bytes.now }
-    ensures long { result ≡ None → 14 ≤ length bytes.now }
+// The kind is the byte that stands in the sheet.
+fn check_head(kind: u8, bytes: &[u8]) -> Result<(), Fault>
+    ensures { result ≡ checked (head_fault kind bytes.now) }
 {
     if bytes.len() < HEAD || word_at(bytes, 0) as usize + 4 != bytes.len() {
-        return Some(Fault::SheetLength);
+        return Err(Fault::SheetLength);
     }
     if bytes[4] != 1 {
-        return Some(Fault::SheetVersion);
+        return Err(Fault::SheetVersion);
     }
     if bytes[5] != kind {
-        return Some(Fault::SheetKind);
+        return Err(Fault::SheetKind);
     }
-    None
+    Ok(())
 }
 
 // The length of a sheet with these counts.
@@ -37,47 +36,23 @@ pub(crate) fn sheet_size(width: usize, vertices: u32, triangles: u32) -> usize
     HEAD + vertices as usize * width + triangles as usize * 12
 }
 
-fn size_fault(width: usize, bytes: &[u8]) -> Option<Fault>
+fn check_size(width: usize, bytes: &[u8]) -> Result<(), Fault>
     requires width_bound { width ≤ 12 }
-    requires long { 14 ≤ length bytes.now }
     requires few_vertices { vertices_of bytes.now ≤ 16384 }
     requires few_triangles { triangles_of bytes.now ≤ 32768 }
-    ensures { result ≡ size_fault width bytes.now }
+    ensures { result ≡ checked (size_fault width bytes.now) }
 {
-    if sheet_size(width, word_at(bytes, 6), word_at(bytes, 10)) == bytes.len() {
-        None
-    } else {
-        Some(Fault::SheetSize)
+    if sheet_size(width, word_at(bytes, 6), word_at(bytes, 10)) != bytes.len() {
+        return Err(Fault::SheetSize);
     }
+    Ok(())
 }
 
 // Length, version, kind, counts, size.
-pub(crate) fn layout_fault<P: Place>(bytes: &[u8]) -> Option<Fault>
-    ensures { result ≡ layout_fault P.Place.kind bytes.now }
+pub(crate) fn check_layout<P: Place>(bytes: &[u8]) -> Result<(), Fault>
+    ensures { result ≡ checked (layout_fault P.Place.kind bytes.now) }
 {
-    if let Some(fault) = head_fault(P::kind_byte(), bytes) {
-        return Some(fault);
-    }
-    if let Some(fault) = count_fault(word_at(bytes, 6), word_at(bytes, 10)) {
-        return Some(fault);
-    }
-    size_fault(P::width_of(), bytes)
-}
-
-// Where the layout is right: vertices, then triangles, against a store's capacities.
-pub(crate) fn capacity_fault(
-    bytes: &[u8],
-    vertex_capacity: u32,
-    triangle_capacity: u32,
-) -> Option<Fault>
-    requires { 14 ≤ length bytes.now }
-    ensures { result ≡ capacity_fault vertex_capacity triangle_capacity bytes.now }
-{
-    if word_at(bytes, 6) > vertex_capacity {
-        return Some(Fault::VertexCapacity);
-    }
-    if word_at(bytes, 10) > triangle_capacity {
-        return Some(Fault::TriangleCapacity);
-    }
-    None
+    check_head(P::KIND, bytes)?;
+    check_counts(word_at(bytes, 6), word_at(bytes, 10))?;
+    check_size(P::WIDTH, bytes)
 }

@@ -2,10 +2,8 @@
 #![tactic(auto)]
 
 mod checks;
-mod extent;
 mod opening;
 mod puts;
-mod reads;
 mod sheet;
 mod surface;
 mod surveying;

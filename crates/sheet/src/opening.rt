@@ -1,72 +1,78 @@
 // Opening a sheet: the checks of its layout, then of its places.
-ghost use Rattle.std.specs.Prelude.{◌≡◌, ◌<◌};
+ghost use Rattle.std.specs.Prelude.{◌≡◌};
+ghost use Rattle.fault.specs.Faults.{checked};
+ghost use Rattle.sheet.specs.Layout.{layout_fault, capacity_fault};
+ghost use Rattle.mesh.specs.Searches.{first_in};
 ghost use Rattle.sheet.specs.Content.{vertices_in, no_place, place_fault, sheet_fault, sheet_fault_within};
-ghost use Rattle.sheet.specs.Opening.{held_by, opened};
 
-use crate::checks::{capacity_fault, layout_fault};
-use crate::extent::counts_of;
+use crate::checks::check_layout;
 use crate::sheet::Sheet;
-use crate::surface::place_in;
 use fault::Fault;
-use place::Place;
+use mesh::Room;
+use place::{Place, word_at};
 use std::marker::PhantomData;
 
-fn no_place<P: Place>(bytes: &[u8], v: u32) -> bool
-    requires { v < vertices_in P.Place.kind bytes.now }
-    ensures { result ≡ no_place P.Place.kind bytes.now v }
-{
-    place_in::<P>(bytes, v).is_none()
-}
+impl<'a, P: Place> Sheet<'a, P> {
+    ghost use Rattle.sheet.specs.Opening.{held_by, opened};
 
-// The lowest vertex whose bytes are no place.
-fn place_fault<P: Place>(bytes: &[u8]) -> Option<Fault>
-    ensures { result ≡ place_fault P.Place.kind bytes.now }
-{
-    for v in 0..counts_of::<P>(bytes).vertices {
-        if no_place::<P>(bytes, v) {
-            return Some(Fault::NoPlace(v));
+    // The sheet, if its layout is right.
+    fn laid_out(bytes: &'a [u8]) -> Result<Sheet<'a, P>, Fault>
+        ensures { held_by result ≡ opened (layout_fault P.Place.kind bytes.now) bytes.now }
+    {
+        check_layout::<P>(bytes)?;
+        Ok(Sheet {
+            bytes,
+            vertices: word_at(bytes, 6),
+            triangles: word_at(bytes, 10),
+            kind: PhantomData,
+        })
+    }
+
+    // Refuses vertices, then triangles, for which there is no room.
+    fn check_room(&self, room: Room) -> Result<(), Fault>
+        ensures { result ≡ checked (capacity_fault room.vertices room.triangles self.now.bytes.now) }
+    {
+        if self.vertices > room.vertices {
+            return Err(Fault::VertexCapacity);
+        }
+        if self.triangles > room.triangles {
+            return Err(Fault::TriangleCapacity);
+        }
+        Ok(())
+    }
+
+    // The lowest vertex whose bytes are no place.
+    fn first_unplaced(&self) -> Option<u32>
+        ensures { result ≡ first_in (no_place P.Place.kind self.now.bytes.now) 0 (vertices_in P.Place.kind self.now.bytes.now) }
+    {
+        (0..self.vertices).find(|&v| self.place_read(v).is_none())
+    }
+
+    fn check_places(&self) -> Result<(), Fault>
+        ensures { result ≡ checked (place_fault P.Place.kind self.now.bytes.now) }
+    {
+        match self.first_unplaced() {
+            Some(v) => Err(Fault::NoPlace(v)),
+            None => Ok(()),
         }
     }
-    None
-}
 
-impl<'a, P: Place> Sheet<'a, P> {
     // The sheet, if its layout is right and its bytes are places.
     pub fn open(bytes: &'a [u8]) -> Result<Sheet<'a, P>, Fault>
         ensures { held_by result ≡ opened (sheet_fault P.Place.kind bytes.now) bytes.now }
     {
-        if let Some(fault) = layout_fault::<P>(bytes) {
-            return Err(fault);
-        }
-        if let Some(fault) = place_fault::<P>(bytes) {
-            return Err(fault);
-        }
-        Ok(Sheet {
-            bytes,
-            kind: PhantomData,
-        })
+        let sheet = Self::laid_out(bytes)?;
+        sheet.check_places()?;
+        Ok(sheet)
     }
 
-    // The same for a store of these capacities, which are checked before the places.
-    pub fn open_within(
-        bytes: &'a [u8],
-        vertex_capacity: u32,
-        triangle_capacity: u32,
-    ) -> Result<Sheet<'a, P>, Fault>
-        ensures { held_by result ≡ opened (sheet_fault_within P.Place.kind vertex_capacity triangle_capacity bytes.now) bytes.now }
+    // The same for a store with this room, which is checked before the places.
+    pub fn open_within(bytes: &'a [u8], room: Room) -> Result<Sheet<'a, P>, Fault>
+        ensures { held_by result ≡ opened (sheet_fault_within P.Place.kind room.vertices room.triangles bytes.now) bytes.now }
     {
-        if let Some(fault) = layout_fault::<P>(bytes) {
-            return Err(fault);
-        }
-        if let Some(fault) = capacity_fault(bytes, vertex_capacity, triangle_capacity) {
-            return Err(fault);
-        }
-        if let Some(fault) = place_fault::<P>(bytes) {
-            return Err(fault);
-        }
-        Ok(Sheet {
-            bytes,
-            kind: PhantomData,
-        })
+        let sheet = Self::laid_out(bytes)?;
+        sheet.check_room(room)?;
+        sheet.check_places()?;
+        Ok(sheet)
     }
 }

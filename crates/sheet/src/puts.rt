@@ -1,11 +1,11 @@
-// Bytes put into a buffer.
+// Bytes put into a buffer. The offset goes beside it, since clauses speak of the whole buffer and of what stays in it.
 ghost use Rattle.std.specs.Prelude.{◌≡◌, ◌+◌, ◌≤◌, true, length};
 ghost use Rattle.mesh.specs.Triangles.{tri_of};
 ghost use Rattle.sheet.specs.Writing.{put_at, triangle_bytes, head_bytes};
 ghost use Rattle.sheet.specs.ReadBack.{ShortCorners};
 
 use mesh::Triangle;
-use place::Place;
+use place::{Place, three_words};
 
 // Puts the bytes from `at` on.
 pub(crate) fn put(out: &mut [u8], at: usize, bytes: &[u8])
@@ -22,7 +22,7 @@ pub(crate) fn put_place<P: Place>(out: &mut [u8], at: usize, place: &P)
     ensures held { P.Place.kind.holds place.now ≡ true }
 {
     let bytes = place.to_bytes();
-    put(out, at, &bytes[..P::width_of()]);
+    put(out, at, &bytes[..P::WIDTH]);
 }
 
 // The length of what follows it, the version, the kind and both counts.
@@ -40,8 +40,5 @@ pub(crate) fn triangle_bytes(triangle: Triangle) -> [u8; 12]
     ensures value { result ≡ triangle_bytes (tri_of triangle) }
     ensures short { ShortCorners (tri_of triangle) }
 {
-    let [a, b, c, d] = triangle.a.to_be_bytes();
-    let [e, f, g, h] = triangle.b.to_be_bytes();
-    let [i, j, k, l] = triangle.c.to_be_bytes();
-    [a, b, c, d, e, f, g, h, i, j, k, l]
+    three_words(triangle.a, triangle.b, triangle.c)
 }

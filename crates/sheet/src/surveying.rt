@@ -4,6 +4,7 @@ ghost use Rattle.sheet.specs.Surveying.{sheet_surveyed, sheet_surveyed_within};
 
 use crate::sheet::Sheet;
 use fault::Fault;
+use mesh::Room;
 use place::Place;
 use survey::{Counts, survey};
 
@@ -11,22 +12,12 @@ use survey::{Counts, survey};
 pub fn survey_sheet<P: Place>(bytes: &[u8]) -> Result<Counts, Fault>
     ensures { result ≡ sheet_surveyed P.Place.kind bytes.now }
 {
-    match Sheet::<P>::open(bytes) {
-        Ok(sheet) => survey(&sheet),
-        Err(fault) => Err(fault),
-    }
+    survey(&Sheet::<P>::open(bytes)?)
 }
 
-// The same for a store of these capacities.
-pub fn survey_sheet_within<P: Place>(
-    bytes: &[u8],
-    vertex_capacity: u32,
-    triangle_capacity: u32,
-) -> Result<Counts, Fault>
-    ensures { result ≡ sheet_surveyed_within P.Place.kind vertex_capacity triangle_capacity bytes.now }
+// The same for a store with this room.
+pub fn survey_sheet_within<P: Place>(bytes: &[u8], room: Room) -> Result<Counts, Fault>
+    ensures { result ≡ sheet_surveyed_within P.Place.kind room.vertices room.triangles bytes.now }
 {
-    match Sheet::<P>::open_within(bytes, vertex_capacity, triangle_capacity) {
-        Ok(sheet) => survey(&sheet),
-        Err(fault) => Err(fault),
-    }
+    survey(&Sheet::<P>::open_within(bytes, room)?)
 }

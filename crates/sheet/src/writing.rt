@@ -1,5 +1,6 @@
-// A surface written as a sheet.
+// A surface written as a sheet: each function takes what it reads and what it fills.
 ghost use Rattle.std.specs.Prelude.{◌≡◌, ◌+◌, ◌*◌, ◌^◌, ◌<◌, ◌≤◌, length};
+ghost use Rattle.fault.specs.Faults.{checked};
 ghost use Rattle.mesh.specs.Meshes.{vertex_total, triangle_total};
 ghost use Rattle.sheet.specs.Writing.{rows, vertex_bytes, triangle_bytes, put_at, short_fault, sheet_written, sheet_after};
 ghost use Rattle.sheet.specs.ReadBack.{Held, Numbered, BackIf};
@@ -10,16 +11,15 @@ use fault::Fault;
 use mesh::ReadingSurface;
 use place::Place;
 
-// The fault of a buffer that has fewer bytes than are needed.
-fn short_buffer(needed: usize, have: usize) -> Option<Fault>
+// Refuses a buffer that has fewer bytes than are needed.
+fn check_buffer(needed: usize, have: usize) -> Result<(), Fault>
     requires { needed < 2 ^ 32 }
-    ensures { result ≡ short_fault needed have }
+    ensures { result ≡ checked (short_fault needed have) }
 {
     if have < needed {
-        Some(Fault::ShortBuffer(needed as u32))
-    } else {
-        None
+        return Err(Fault::ShortBuffer(needed as u32));
     }
+    Ok(())
 }
 
 // How many bytes follow the length field of a sheet of this size.
@@ -31,17 +31,15 @@ fn behind_length(size: usize) -> u32
     (size - 4) as u32
 }
 
-// The places, from behind the head on.
+// The places, from behind the head on. Each goes to its offset: once `chunks_exact_mut` has lent
+// the rows out, a proof knows how many bytes there are and no longer which.
 fn write_places<S: ReadingSurface>(surface: &S, out: &mut [u8])
     requires { 14 + vertex_total (S.ReadingSurface.mesh surface.now) * S.Kind.Place.kind.width ≤ length out.old }
     ensures after { out.new ≡ put_at 14 (rows (vertex_bytes S.Kind.Place.kind) (S.ReadingSurface.mesh surface.now).vertices) out.old }
     ensures held { Held S.Kind.Place.kind (S.ReadingSurface.mesh surface.now).vertices }
 {
-    let width = S::Kind::width_of();
-    for v in 0..surface.vertex_count() {
-        if let Some(place) = surface.place(v) {
-            put_place(out, HEAD + v as usize * width, &place);
-        }
+    for (v, place) in surface.places().enumerate() {
+        put_place(out, HEAD + v * S::Kind::WIDTH, &place);
     }
 }
 
@@ -51,10 +49,8 @@ fn write_triangles<S: ReadingSurface>(surface: &S, out: &mut [u8], at: usize)
     ensures after { out.new ≡ put_at at (rows triangle_bytes (S.ReadingSurface.mesh surface.now).triangles) out.old }
     ensures numbered { Numbered (S.ReadingSurface.mesh surface.now).triangles }
 {
-    for t in 0..surface.triangle_count() {
-        if let Some(triangle) = surface.triangle(t) {
-            put(out, at + t as usize * 12, &triangle_bytes(triangle));
-        }
+    for (t, triangle) in surface.triangles().enumerate() {
+        put(out, at + t * 12, &triangle_bytes(triangle));
     }
 }
 
@@ -67,14 +63,15 @@ pub fn write_sheet<S: ReadingSurface>(surface: &S, out: &mut [u8]) -> Result<usi
 {
     let vertices = surface.vertex_count();
     let triangles = surface.triangle_count();
-    let width = S::Kind::width_of();
+    let width = S::Kind::WIDTH;
     let size = sheet_size(width, vertices, triangles);
-    if let Some(fault) = short_buffer(size, out.len()) {
-        return Err(fault);
-    }
+    check_buffer(size, out.len())?;
     let following = behind_length(size);
-    let kind = S::Kind::kind_byte();
-    put(out, 0, &head_bytes(following, kind, vertices, triangles));
+    put(
+        out,
+        0,
+        &head_bytes(following, S::Kind::KIND, vertices, triangles),
+    );
     write_places(surface, out);
     write_triangles(surface, out, HEAD + vertices as usize * width);
     Ok(size)

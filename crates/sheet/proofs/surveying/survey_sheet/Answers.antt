@@ -1,12 +1,12 @@
-use Rattle.sheet.specs.Content.{sheet_fault}
+use Rattle.std.proofs.Common.{rules}
 use Rattle.sheet.specs.Surveying.{sheet_surveyed}
 use Rattle.sheet.proofs.Opened.{surveyed_ok, surveyed_err}
 use Rattle.sheet.proofs.surveying.survey_sheet.Goals as goal
 
-pub returns-in-Ok : goal.returns-in-Ok
+pub returns-in_err-open : goal.returns-in_err-open
 unfolding sheet_surveyed
-returns-in-Ok g c = surveyed_ok g.P.Place.kind (sheet_fault g.P.Place.kind c.args.bytes.now) c.args.bytes.now c.in-Ok.sheet.bytes.now c.survey.result c.in-Ok.ensures c.survey.ensures
+returns-in_err-open g c = search (rules, surveyed_err)
 
-pub returns-in-Err : goal.returns-in-Err
+pub returns : goal.returns
 unfolding sheet_surveyed
-returns-in-Err g c = surveyed_err g.P.Place.kind (sheet_fault g.P.Place.kind c.args.bytes.now) c.args.bytes.now c.in-Err.fault c.in-Err.ensures
+returns g c = surveyed_ok g.P.Place.kind _ _ _ _ c.in_ok-open.ensures c.survey.ensures

@@ -1,12 +1,12 @@
-use Rattle.sheet.specs.Content.{sheet_fault_within}
+use Rattle.std.proofs.Common.{rules}
 use Rattle.sheet.specs.Surveying.{sheet_surveyed_within}
 use Rattle.sheet.proofs.Opened.{surveyed_ok, surveyed_err}
 use Rattle.sheet.proofs.surveying.survey_sheet_within.Goals as goal
 
-pub returns-in-Ok : goal.returns-in-Ok
+pub returns-in_err-open_within : goal.returns-in_err-open_within
 unfolding sheet_surveyed_within
-returns-in-Ok g c = surveyed_ok g.P.Place.kind (sheet_fault_within g.P.Place.kind c.args.vertex_capacity c.args.triangle_capacity c.args.bytes.now) c.args.bytes.now c.in-Ok.sheet.bytes.now c.survey.result c.in-Ok.ensures c.survey.ensures
+returns-in_err-open_within g c = search (rules, surveyed_err)
 
-pub returns-in-Err : goal.returns-in-Err
+pub returns : goal.returns
 unfolding sheet_surveyed_within
-returns-in-Err g c = surveyed_err g.P.Place.kind (sheet_fault_within g.P.Place.kind c.args.vertex_capacity c.args.triangle_capacity c.args.bytes.now) c.args.bytes.now c.in-Err.fault c.in-Err.ensures
+returns g c = surveyed_ok g.P.Place.kind _ _ _ _ c.in_ok-open_within.ensures c.survey.ensures

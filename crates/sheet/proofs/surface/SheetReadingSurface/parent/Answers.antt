@@ -1,9 +1,7 @@
 use Rattle.std.proofs.Common.{rules}
 use Rattle.mesh.proofs.Indexed.{counted_there, counted_past}
+use Rattle.sheet.proofs.Fields.{vertices_right}
 use Rattle.sheet.proofs.surface.SheetReadingSurface.parent.Goals as goal
 
-pub returns-then-v-counts_of : goal.returns-then-v-counts_of
-returns-then-v-counts_of g c = search (rules, counted_there)
-
-pub returns-else-v-counts_of : goal.returns-else-v-counts_of
-returns-else-v-counts_of g c = search (rules, counted_past)
+pub returns : goal.returns
+returns g c = search (rules, counted_there, counted_past, vertices_right)

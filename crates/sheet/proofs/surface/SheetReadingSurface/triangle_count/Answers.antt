@@ -1,6 +1,7 @@
 use Rattle.std.proofs.Common.{rules}
-use Rattle.mesh.proofs.Indexed.{length_counted}
+use Rattle.std.proofs.lemmas.List.FromFn.{length-map-range_with_len}
+use Rattle.sheet.proofs.Fields.{triangles_right}
 use Rattle.sheet.proofs.surface.SheetReadingSurface.triangle_count.Goals as goal
 
 pub returns : goal.returns
-returns g c = search (rules, length_counted)
+returns g c = search (rules, length-map-range_with_len, triangles_right)
