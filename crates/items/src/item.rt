@@ -1,32 +1,31 @@
 // Items of the input, each with a four-byte length in front.
-ghost use Rattle.std.specs.Prelude.{◌≤◌, length, IfOk};
+ghost use Rattle.std.specs.Prelude.{◌≡◌, length, IfOk};
 ghost use Rattle.items.specs.Items.{Within};
 
+use place::word_at;
 use std::io;
 use std::io::Read;
 
+#[derive(Clone, Copy, PartialEq, Eq, Debug)]
 pub enum Item {
     // The input ended before the item.
     Ended,
     // The item is longer than the buffer, or the input ended within it.
     Broken,
-    // The item, its length included, fills so many bytes of the buffer.
+    // The item, its length included, fills so many bytes of the buffer. It is no slice of the buffer: that would be
+    // lent on, and no clause could say what the buffer holds then.
     Whole(usize),
 }
 
-// Reads until the buffer is full or the input ends, and tells how many bytes came.
-fn fill<R: Read>(input: &mut R, buffer: &mut [u8]) -> io::Result<usize>
-    ensures { IfOk result (λ n. n ≤ length buffer.new) }
+// Fills the bytes, or tells that the input ended before.
+fn is_filled<R: Read>(input: &mut R, bytes: &mut [u8]) -> io::Result<bool>
+    ensures { length bytes.new ≡ length bytes.old }
 {
-    let mut at = 0;
-    while at < buffer.len() {
-        let n = input.read(&mut buffer[at..])?;
-        if n == 0 {
-            return Ok(at);
-        }
-        at += n;
+    match input.read_exact(bytes) {
+        Ok(()) => Ok(true),
+        Err(error) if error.kind() == io::ErrorKind::UnexpectedEof => Ok(false),
+        Err(error) => Err(error),
     }
-    Ok(at)
 }
 
 pub fn next_item<R: Read>(input: &mut R, buffer: &mut [u8]) -> io::Result<Item>
@@ -35,19 +34,14 @@ pub fn next_item<R: Read>(input: &mut R, buffer: &mut [u8]) -> io::Result<Item>
     if buffer.len() < 4 {
         return Ok(Item::Broken);
     }
-    let got = fill(input, &mut buffer[0..4])?;
-    if got == 0 {
+    if input.read(&mut buffer[0..1])? == 0 {
         return Ok(Item::Ended);
     }
-    if got < 4 {
+    if !is_filled(input, &mut buffer[1..4])? {
         return Ok(Item::Broken);
     }
-    let size = u32::from_be_bytes([buffer[0], buffer[1], buffer[2], buffer[3]]) as usize + 4;
-    if size > buffer.len() {
-        return Ok(Item::Broken);
-    }
-    let got = fill(input, &mut buffer[4..size])?;
-    if got < size - 4 {
+    let size = word_at(buffer, 0) as usize + 4;
+    if size > buffer.len() || !is_filled(input, &mut buffer[4..size])? {
         return Ok(Item::Broken);
     }
     Ok(Item::Whole(size))

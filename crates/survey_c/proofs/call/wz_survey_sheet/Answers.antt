@@ -1,16 +1,8 @@
-use Rattle.std.proofs.Common.{◌≡◌, ℕ, Bool, false, cond, ltb, List, ◌++◌, length, drop, Result, sym, ap, ◌∙◌, arith, rules}
+use Rattle.std.proofs.Common.{◌≡◌, ℕ, Bool, false, cond, ltb, List, ◌++◌, length, drop, Result, sym, ap, ◌∙◌, rules}
 use Rattle.survey.specs.declared.counts.Counts.{Counts}
 use Rattle.fault.specs.declared.fault.Fault.{Fault}
 use Rattle.survey_c.specs.Answers.{any_surveyed, number_of, written}
-use Rattle.survey_c.proofs.Outcome.{any_small}
 use Rattle.survey_c.proofs.call.wz_survey_sheet.Goals as goal
-
-pub counts_bytes-bytes-requires : goal.counts_bytes-bytes-requires
-counts_bytes-bytes-requires c =
-    let s = any_small c.args.sheet.now c.in-Ok.counts c.in-Ok.ensures in
-    let p = s.vertices in
-    let q = s.edges in
-    let r = s.triangles in record { vertices_bound = omega arith; edges_bound = omega arith; triangles_bound = omega arith }
 
 pub returns-in-Ok : goal.returns-in-Ok
 returns-in-Ok c =
