@@ -2,9 +2,9 @@
 use Rattle.std.proofs.Common.{◌≡◌, ℕ, suc, ◌-◌, ◌*◌, ◌<◌, ◌≤◌, Bool, true, false, cond, not, ◌||◌, eqb, ◌⊎◌, List, [], ◌∷◌, length, drop, Some, None, Option, sym, refl, ap, ◌∙◌, subst, inl, inr, ⊎_elim, arith, ltb-true, eqb-true}
 use borrow.Author.Tests.{eqb-false}
 use Rattle.std.specs.Option.{option_map}
+use Rattle.std.proofs.lemmas.Bool.{or_parts, and_from}
 use Rattle.fault.specs.declared.fault.Fault.TheVariants.{CodeCount, CodesOffTree, LoopTooShort, MarkClosesLoop, SideTwice, SingleEdgeTree}
-use Rattle.fault.specs.declared.fault.Fault.{Fault}
-use Rattle.fault.specs.Faults.{or_else}
+use Rattle.fault.proofs.Orders.{or_none, mapped_none, test_passed}
 use Rattle.mesh.specs.Lists.{Apart, Mem, later, no_one, now, one_more}
 use Rattle.mesh.specs.Triangles.{Tri, tri}
 use Rattle.mesh.specs.Sides.{Side, side, sides}
@@ -19,7 +19,7 @@ use Rattle.forest.specs.Splitting.{first_closing, first_early, first_single, fir
 use Rattle.mesh.proofs.Rise.{ascending_apart, edges_ascend}
 use Rattle.mesh.proofs.Counting.{closed_sided, edge_up}
 use Rattle.mesh.proofs.Members.{kept_mem, mem_cases, mem_eq}
-use Rattle.mesh.proofs.Tests.{none_some, or_false, true_and}
+use Rattle.mesh.proofs.Tests.{none_some}
 use Rattle.mesh.proofs.Links.{side_link}
 use Rattle.forest.proofs.Forests.{Coded}
 use Rattle.forest.proofs.Turning.{EdgesIn}
@@ -27,14 +27,6 @@ use Rattle.forest.proofs.Marking.{has_out, marked_apart, marked_mem}
 use Rattle.forest.proofs.Labels.{tree_some}
 
 -- checks that find nothing
-pub or_none : (a b : Option Fault) → or_else a b ≡ None → (a ≡ None) × (b ≡ None)
-or_none None b e = (refl, e)
-or_none (Some f) b e = none_some (sym e)
-
-pub mapped_none : (f : ℕ → Fault) (o : Option ℕ) → option_map f o ≡ None → o ≡ None
-mapped_none f None e = refl
-mapped_none f (Some n) e = none_some (sym e)
-
 cond_none : (b : Bool) (n : ℕ) (r : Option ℕ) → cond b (Some n) r ≡ None → (b ≡ false) × (r ≡ None)
 cond_none true n r e = none_some (sym e)
 cond_none false n r e = (refl, e)
@@ -49,7 +41,7 @@ closing_none l n (s ∷ es) [] e = refl
 closing_none l n (s ∷ es) (false ∷ bs) e = closing_none l (suc n) es bs e
 closing_none l n (side i j ∷ es) (true ∷ bs) e =
     let h = cond_none (eqb (l i) (l j)) n (first_closing (λ v. merged (l i) (l j) (l v)) (suc n) es bs) e in
-    true_and (not (eqb (l i) (l j))) (loop_free (λ v. merged (l i) (l j) (l v)) (marked_edges es bs)) (ap not h.0) (closing_none (λ v. merged (l i) (l j) (l v)) (suc n) es bs h.1)
+    and_from (not (eqb (l i) (l j))) (loop_free (λ v. merged (l i) (l j) (l v)) (marked_edges es bs)) (ap not h.0) (closing_none (λ v. merged (l i) (l j) (l v)) (suc n) es bs h.1)
 
 single_none : (ms : List Side) (ks : List ℕ) → first_single ms ks ≡ None → (k : ℕ) → Mem k ks → length (tree_edges ms k) ≡ 1 → ⊥
 single_none ms [] e k m = elim m [ ]
@@ -72,8 +64,8 @@ pub twice_none : (n : ℕ) (seen : List Side) (us : List Tri) → ((v x y : ℕ)
 twice_none n seen [] proper e = (no_one, λ s m. elim m [ ])
 twice_none n seen (tri x y z ∷ us) proper e =
     let h = cond_none (has_side (side x y) seen || (has_side (side y z) seen || has_side (side z x) seen)) n (first_twice (suc n) (side x y ∷ side y z ∷ side z x ∷ seen) us) e in
-    let a = or_false (has_side (side x y) seen) (has_side (side y z) seen || has_side (side z x) seen) h.0 in
-    let b = or_false (has_side (side y z) seen) (has_side (side z x) seen) a.1 in
+    let a = or_parts (has_side (side x y) seen) (has_side (side y z) seen || has_side (side z x) seen) h.0 in
+    let b = or_parts (has_side (side y z) seen) (has_side (side z x) seen) a.1 in
     let r = twice_none (suc n) (side x y ∷ side y z ∷ side z x ∷ seen) us (λ v x y l. proper v x y (there l)) h.1 in (
       one_more (λ m. first (mem_cases m) (λ k. r.1 (side x y) k now))
           (one_more (λ m. second (mem_cases m) (λ k. r.1 (side y z) k (later now)))
@@ -136,15 +128,11 @@ planted V ts bs n e =
     record {
       free = closing_none own 0 (edges ts) bs (mapped_none MarkClosesLoop (first_closing own 0 (edges ts) bs) b.0);
       long = λ k m. long k m (single_none (marked_of ts bs) (trees V (marked_of ts bs)) (mapped_none SingleEdgeTree (first_single (marked_of ts bs) (trees V (marked_of ts bs))) c.0) k m);
-      codes = eqb-true n (2 * (length (marked_of ts bs) - length (trees V (marked_of ts bs)))) (counted (eqb n (2 * (length (marked_of ts bs) - length (trees V (marked_of ts bs))))) c.1);
+      codes = eqb-true n (2 * (length (marked_of ts bs) - length (trees V (marked_of ts bs)))) (test_passed (eqb n (2 * (length (marked_of ts bs) - length (trees V (marked_of ts bs))))) CodeCount c.1);
     }
   where
     long : (k : ℕ) → Mem k (trees V (marked_of ts bs)) → (length (tree_edges (marked_of ts bs) k) ≡ 1 → ⊥) → 2 ≤ length (tree_edges (marked_of ts bs) k)
     long k m n = let q = (tree_some V (marked_of ts bs) k m).1 in omega arith
-
-    counted : (b : Bool) → cond b None (Some CodeCount) ≡ None → b ≡ true
-    counted true e = refl
-    counted false e = none_some (sym e)
 
 -- and of the codes
 pub record Sewn (V : ℕ) (ts : List Tri) (ms : List Side) (cs : List Code) : Type 0 where

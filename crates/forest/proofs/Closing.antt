@@ -1,12 +1,13 @@
 -- What it means that a marked edge closes a loop.
 use Rattle.std.proofs.Common.{◌≡◌, ℕ, suc, ◌+◌, Bool, true, false, cond, not, eqb, List, [], ◌∷◌, take, Some, filter, refl, ap, subst, arith, eqb-true}
 use Rattle.std.specs.List.{slice_get}
+use Rattle.std.proofs.lemmas.Bool.{and_from}
 use Rattle.mesh.specs.Sides.{Side, side}
 use Rattle.forest.specs.Marks.{marked_edges}
 use Rattle.forest.specs.Trees.{labels, loop_free, merged, own}
 use Rattle.forest.specs.Splitting.{first_closing}
 use Rattle.forest.specs.Theorems.{Closing, ClosingMeant, ForestMeant}
-use Rattle.mesh.proofs.Tests.{none_some, some_inj, true_and}
+use Rattle.mesh.proofs.Tests.{none_some, some_inj}
 use Rattle.forest.proofs.Rounds.{apart_without, but}
 use Rattle.forest.proofs.Checking.{closing_none}
 use Rattle.forest.proofs.Means.{labels_meant}
@@ -48,7 +49,7 @@ closing_from l m (side i j ∷ es) (true ∷ bs) n e = go (eqb (l i) (l j)) refl
           there_is = r.there_is;
           is_set = r.is_set;
           alike = r.alike;
-          free = true_and (not (eqb (l i) (l j))) (loop_free (λ v. merged (l i) (l j) (l v)) (marked_edges (take r.at_index es) (take r.at_index bs))) (ap not q) r.free;
+          free = and_from (not (eqb (l i) (l j))) (loop_free (λ v. merged (l i) (l j) (l v)) (marked_edges (take r.at_index es) (take r.at_index bs))) (ap not q) r.free;
         }
 
 pub closing_meant : ClosingMeant

@@ -1,5 +1,7 @@
 -- The new numbers of the corners: a run gives that of the position that comes after it.
 use Rattle.std.proofs.Common.{◌≡◌, ℕ, zero, suc, ◌-◌, ◌<◌, Bool, true, false, cond, List, [], ◌∷◌, ◌++◌, map, length, get_or, take, drop, sym, refl, ap, ◌∙◌, ⊎_elim, arith}
+use Rattle.std.proofs.Math.Seq.{take-append_seam, drop-append_seam}
+use Rattle.std.proofs.lemmas.List.{take-map, drop-map}
 use Rattle.mesh.specs.Lists.{Mem, later, now}
 use Rattle.mesh.specs.Triangles.{Tri}
 use Rattle.mesh.specs.Sides.{Side, side}
@@ -14,12 +16,10 @@ use Rattle.forest.proofs.Passing.{passed}
 
 module _ {A : Type 0} (f : A → ℕ) where
   pub take_front : (xs ys : List A) → take (length xs) (map f (xs ++ ys)) ≡ map f xs
-  take_front [] ys = refl
-  take_front (x ∷ xs) ys = ap (λ r. f x ∷ r) (take_front xs ys)
+  take_front xs ys = take-map f (length xs) (xs ++ ys) ∙ ap (map f) (take-append_seam xs ys)
 
   pub drop_front : (xs ys : List A) → drop (length xs) (map f (xs ++ ys)) ≡ map f ys
-  drop_front [] ys = refl
-  drop_front (x ∷ xs) ys = drop_front xs ys
+  drop_front xs ys = drop-map f (length xs) (xs ++ ys) ∙ ap (map f) (drop-append_seam xs ys)
 
 -- the numbers of a loop that comes round, turned by one, are those of the next sides
 module _ (N : Side → Side) (f : Side → ℕ) where

@@ -2,22 +2,18 @@
 use Rattle.std.proofs.Common.{◌≡◌, ℕ, zero, suc, ◌+◌, ◌-◌, ◌<◌, ltb, List, [], ◌∷◌, ◌++◌, map, length, get_or, take, Some, sym, refl, ap, ◌∙◌, arith, le-ltb, lt-ltb}
 use native.Mathlib.Decide.{dec_lt}
 use Rattle.std.specs.List.{slice_get}
+use Rattle.std.proofs.lemmas.Option.{slice_get-get_or}
+use Rattle.std.proofs.lemmas.Bool.{cond-false, cond-true}
 use Rattle.mesh.specs.Lists.{Mem}
 use Rattle.mesh.specs.Triangles.{Tri, tri}
 use Rattle.mesh.specs.Rings.{Link, at_first, at_second, at_third, here, there}
 use Rattle.mesh.specs.Follow.{back_step, back_steps, follow_back, smaller_parent}
 use Rattle.forest.specs.Splitting.{marked_of, split_parents, split_triangles}
 use Rattle.forest.specs.Theorems.{FollowsBack, origin, TrianglesFollow, followed, led_back}
-use Rattle.mesh.proofs.Tests.{cond_false, cond_true}
 use Rattle.mesh.proofs.Following.{enough_steps, steps_alike}
 use Rattle.forest.proofs.Placing.{nth_left, nth_right}
 use Rattle.forest.proofs.Loops.{nth_mem}
 use Rattle.forest.proofs.Keeping.{split_keeps}
-
-nth_get_or : (ps : List ℕ) (i : ℕ) → i < length ps → slice_get ps i ≡ Some (get_or ps i 0)
-nth_get_or [] i h = absurd (omega arith)
-nth_get_or (p ∷ ps) zero h = refl
-nth_get_or (p ∷ ps) (suc i) h = nth_get_or ps i (omega arith)
 
 module _ (V : ℕ) (qs ps : List ℕ) (full : length qs ≡ V) (low : (p : ℕ) → Mem p ps → p < V) where
   follow_old : (u : ℕ) → u < V → follow_back (qs ++ ps) u ≡ follow_back qs u
@@ -33,23 +29,23 @@ module _ (V : ℕ) (qs ps : List ℕ) (full : length qs ≡ V) (low : (p : ℕ) 
       small = low p (nth_mem ps 0 i h)
 
       there : slice_get (qs ++ ps) (V + i) ≡ Some p
-      there = ap (λ n. slice_get (qs ++ ps) (n + i)) (sym full) ∙ (nth_right qs ps i ∙ nth_get_or ps i h)
+      there = ap (λ n. slice_get (qs ++ ps) (n + i)) (sym full) ∙ (nth_right qs ps i ∙ slice_get-get_or ps i 0 h)
 
       go : (u : ℕ) → u ≡ V + i → follow_back (qs ++ ps) u ≡ follow_back qs p
       go zero e = let s = small in absurd (omega arith)
       go (suc u) e =
           let s = small in
-          let a : back_step (qs ++ ps) (suc u) ≡ p = ap (λ o. smaller_parent o (suc u)) (ap (slice_get (qs ++ ps)) e ∙ there) ∙ cond_true (ltb p (suc u)) p (suc u) (lt-ltb p (suc u) (omega arith)) in
+          let a : back_step (qs ++ ps) (suc u) ≡ p = ap (λ o. smaller_parent o (suc u)) (ap (slice_get (qs ++ ps)) e ∙ there) ∙ cond-true (ltb p (suc u)) p (suc u) (lt-ltb p (suc u) (omega arith)) in
           ap (back_steps u (qs ++ ps)) a ∙ (enough_steps u p (qs ++ ps) p (omega arith) (omega arith) ∙ follow_old p s)
 
 pub follows_back : FollowsBack
 follows_back V qs ps full low u h = go (dec_lt u V)
   where
     go : Dec (u < V) → follow_back (qs ++ ps) u ≡ follow_back qs (origin V ps u)
-    go (yes k) = follow_old V qs ps full low u k ∙ sym (ap (follow_back qs) (cond_true (ltb u V) u (get_or ps (u - V) 0) (lt-ltb u V k)))
+    go (yes k) = follow_old V qs ps full low u k ∙ sym (ap (follow_back qs) (cond-true (ltb u V) u (get_or ps (u - V) 0) (lt-ltb u V k)))
     go (no k) =
         let e : V + (u - V) ≡ u = omega arith in
-        ap (follow_back (qs ++ ps)) (sym e) ∙ (follow_new V qs ps full low (u - V) (omega arith) ∙ sym (ap (follow_back qs) (cond_false (ltb u V) u (get_or ps (u - V) 0) (le-ltb u V (omega arith)))))
+        ap (follow_back (qs ++ ps)) (sym e) ∙ (follow_new V qs ps full low (u - V) (omega arith) ∙ sym (ap (follow_back qs) (cond-false (ltb u V) u (get_or ps (u - V) 0) (le-ltb u V (omega arith)))))
 
 -- triangles that lead back, followed back
 leads_follow : (V : ℕ) (qs ps : List ℕ) → length qs ≡ V → ((p : ℕ) → Mem p ps → p < V) → (us : List Tri) → ((v x y : ℕ) → Link us v x y → v < V + length ps) → map (followed (qs ++ ps)) us ≡ map (followed qs) (map (led_back V ps) us)

@@ -1,5 +1,6 @@
 -- The steps from marked side to marked side, and the position of a run.
 use Rattle.std.proofs.Common.{◌≡◌, ℕ, Bool, true, false, cond, not, List, length, sym, refl, ap, ◌∙◌, subst, arith}
+use Rattle.std.proofs.Math.Bool.{not-not}
 use Rattle.mesh.specs.Triangles.{Tri}
 use Rattle.mesh.specs.Sides.{Side, side, back}
 use Rattle.forest.specs.Marks.{Marked}
@@ -10,10 +11,6 @@ use Rattle.mesh.proofs.Counting.{back_inj}
 use Rattle.forest.proofs.Labels.{label_edge, Ours, InTree}
 use Rattle.forest.proofs.Turning.{read_length, Good, good_read, EdgesIn, edges_read, link_read, Turning, turning, turns_back}
 use Rattle.forest.proofs.Marking.{marked_back}
-
-pub not_not : (b : Bool) → not (not b) ≡ b
-not_not true = refl
-not_not false = refl
 
 pub back_back : (s : Side) → back (back s) ≡ s
 back_back (side u v) = refl
@@ -62,7 +59,7 @@ module _ (V : ℕ) (ts : List Tri) (ms : List Side) (g : Good V ts) (edges : Edg
   pub hop_forth : (b : Bool) (s : Side) → Ours ms s → hop ts ms b (back (hop ts ms (not b) (back s))) ≡ s
   hop_forth b s m =
       let h = hop_back (not b) (back s) (ours_back s m) in
-      ap (λ c. hop ts ms c (back (hop ts ms (not b) (back s)))) (sym (not_not b)) ∙ h ∙ back_back s
+      ap (λ c. hop ts ms c (back (hop ts ms (not b) (back s)))) (sym (not-not b)) ∙ h ∙ back_back s
 
   pub hop_inj : (b : Bool) (s t : Side) → Ours ms s → Ours ms t → hop ts ms b s ≡ hop ts ms b t → s ≡ t
   hop_inj b s t m n e = back_inj s t (sym (hop_back b s m) ∙ ap (λ r. hop ts ms (not b) (back r)) e ∙ hop_back b t n)

@@ -1,14 +1,16 @@
 -- A tree has a leaf, so that its root is the lowest of them.
-use Rattle.std.proofs.Common.{◌≡◌, ℕ, suc, ◌+◌, ◌*◌, ◌<◌, ◌≤◌, min, max, Bool, true, false, cond, not, ◌&&◌, ◌||◌, eqb, ltb, ◌⊎◌, List, [], ◌∷◌, ◌++◌, map, length, filter, sym, refl, ap, ◌∙◌, subst, inl, inr, ⊎_elim, arith, ltb-false, ltb-true, eq-eqb, ne_eqb, eqb-true}
+use Rattle.std.proofs.Common.{◌≡◌, ℕ, suc, ◌+◌, ◌*◌, ◌<◌, ◌≤◌, min, max, Bool, true, false, cond, not, ◌&&◌, ◌||◌, eqb, ltb, ◌⊎◌, List, [], ◌∷◌, map, length, filter, sym, refl, ap, ◌∙◌, subst, inl, inr, ⊎_elim, arith, ltb-false, ltb-true, eq-eqb, ne_eqb, eqb-true}
 use borrow.Author.Tests.{eqb-false, not-true, not-false, clash}
 use Rattle.std.proofs.lemmas.List.Filters.{length-filter_both}
+use Rattle.std.proofs.lemmas.List.{length-append}
+use Rattle.std.proofs.lemmas.List.Elements.{filter-append}
+use Rattle.std.proofs.lemmas.Bool.{and_parts, and_from, or_cases, or_parts}
 use Rattle.mesh.specs.Lists.{Mem, now, later, Apart, no_one, one_more}
 use Rattle.mesh.specs.Sides.{Side, side, back}
 use Rattle.mesh.specs.Edges.{two_way}
 use Rattle.forest.specs.Trees.{merged, own, label, loop_free, start, end, tree_edges, below, trees}
 use Rattle.forest.specs.Roots.{touches, leaf, better, best, root_of, root}
 use Rattle.mesh.proofs.Members.{mem_cases, apart_le, kept_mem, mem_kept, kept_apart, mem_left, mem_right, mem_map, mem_eq, same_length}
-use Rattle.mesh.proofs.Tests.{and_true, true_and, or_true, or_false}
 use Rattle.forest.proofs.Labels.{label_edge, tree_some, root_mem, InTree, of_mem, below_mem, below_apart, length_below, tree_side, side_tree, two_way_length, first_of}
 use Rattle.forest.proofs.Vertices.{Touched, labels_counted, label_alone, label_from, labels_still, merged_cases, Fixed, decided, decided_true, decided_false}
 use Rattle.forest.proofs.Marking.{touched_dec}
@@ -53,12 +55,12 @@ finer_one k l f i j v w e = ap (merged (l i) (l j)) (f v w e)
 pub free_part : (p : Side → Bool) (k l : ℕ → ℕ) → Finer k l → (ms : List Side) → loop_free l ms ≡ true → loop_free k (filter p ms) ≡ true
 free_part p k l f [] e = refl
 free_part p k l f (side i j ∷ ms) e =
-    let h = and_true (not (eqb (l i) (l j))) (loop_free (λ v. merged (l i) (l j) (l v)) ms) e in
+    let h = and_parts (not (eqb (l i) (l j))) (loop_free (λ v. merged (l i) (l j) (l v)) ms) e in
     let n = eqb-false (l i) (l j) (not-true (eqb (l i) (l j)) h.0) in
     go (p (side i j)) n (free_part p (λ v. merged (k i) (k j) (k v)) (λ v. merged (l i) (l j) (l v)) (finer_both k l f i j) ms h.1) (free_part p k (λ v. merged (l i) (l j) (l v)) (finer_one k l f i j) ms h.1)
   where
     go : (b : Bool) → (l i ≡ l j → ⊥) → loop_free (λ v. merged (k i) (k j) (k v)) (filter p ms) ≡ true → loop_free k (filter p ms) ≡ true → loop_free k (cond b (side i j ∷ filter p ms) (filter p ms)) ≡ true
-    go true n x y = true_and (not (eqb (k i) (k j))) (loop_free (λ v. merged (k i) (k j) (k v)) (filter p ms)) (ap not (ne_eqb (k i) (k j) (λ e. n (f i j e)))) x
+    go true n x y = and_from (not (eqb (k i) (k j))) (loop_free (λ v. merged (k i) (k j) (k v)) (filter p ms)) (ap not (ne_eqb (k i) (k j) (λ e. n (f i j e)))) x
     go false n x y = y
 
 -- The sides that leave a vertex
@@ -67,17 +69,9 @@ free_part p k l f (side i j ∷ ms) e =
 abbrev from : ℕ → Side → Bool
 from v s = labelled start v s
 
-kept_append : {A : Type 0} (p : A → Bool) (xs ys : List A) → length (filter p (xs ++ ys)) ≡ length (filter p xs) + length (filter p ys)
-kept_append p [] ys = omega arith
-kept_append p (x ∷ xs) ys = go (p x) (kept_append p xs ys)
-  where
-    go : (b : Bool) → length (filter p (xs ++ ys)) ≡ length (filter p xs) + length (filter p ys) → length (cond b (x ∷ filter p (xs ++ ys)) (filter p (xs ++ ys))) ≡ length (cond b (x ∷ filter p xs) (filter p xs)) + length (filter p ys)
-    go true h = omega arith
-    go false h = h
-
 -- the sides that leave v are the marked edges at v
 pub degree : (v : ℕ) (ms : List Side) → ((s : Side) → Mem s ms → start s < end s) → length (filter (from v) (two_way ms)) ≡ length (filter (touches v) ms)
-degree v ms rising = kept_append (from v) ms (map back ms) ∙ sum ms rising
+degree v ms rising = ap length (filter-append (from v) ms (map back ms)) ∙ length-append (filter (from v) ms) (filter (from v) (map back ms)) ∙ sum ms rising
   where
     sum : (ms : List Side) → ((s : Side) → Mem s ms → start s < end s) → length (filter (from v) ms) + length (filter (from v) (map back ms)) ≡ length (filter (touches v) ms)
     sum [] r = refl
@@ -157,7 +151,7 @@ any_leaf ms (s ∷ ss) = go (leaf ms (start s)) refl (any_leaf ms ss)
     go false e (inr h) = inr (λ r m. ⊎_elim (λ (i : r ≡ s). ap (λ z. leaf ms (start z)) i ∙ e) (λ k. h r k) (mem_cases m))
 
 pub touch_start : (v : ℕ) (s : Side) → touches v s ≡ true → (start s ≡ v) ⊎ (end s ≡ v)
-touch_start v (side i j) e = ⊎_elim (λ k. inl (eqb-true i v k)) (λ k. inr (eqb-true j v k)) (or_true (eqb i v) (eqb j v) e)
+touch_start v (side i j) e = ⊎_elim (λ k. inl (eqb-true i v k)) (λ k. inr (eqb-true j v k)) (or_cases (eqb i v) (eqb j v) e)
 
 module _ (V : ℕ) (ms : List Side) (small : (s : Side) → Mem s ms → (start s < V) × (end s < V)) (free : loop_free own ms ≡ true) (rising : (s : Side) → Mem s ms → start s < end s) (k : ℕ) where
   in_label : (s : Side) → Mem s ms → (v : ℕ) → touches v s ≡ true → label ms v ≡ k → eqb (label ms (start s)) k ≡ true
@@ -208,9 +202,9 @@ best_low ms s (t ∷ ss) = go (better ms s t) refl (best_low ms s ss) (best_low 
         → (leaf ms (start t) ≡ true → Low ms (best ms t ss) t) × ((r : Side) → Mem r ss → leaf ms (start r) ≡ true → Low ms (best ms t ss) r)
         → (leaf ms (start s) ≡ true → Low ms (best ms (cond b t s) ss) s) × ((r : Side) → Mem r (t ∷ ss) → leaf ms (start r) ≡ true → Low ms (best ms (cond b t s) ss) r)
     go true e x y =
-        let a = and_true (leaf ms (start t)) (not (leaf ms (start s)) || ltb (start t) (start s)) e in
+        let a = and_parts (leaf ms (start t)) (not (leaf ms (start s)) || ltb (start t) (start s)) e in
         let low = y.0 a.0 in (
-          λ i. (low.0, ⊎_elim (λ j. absurd (clash (sym (not-true (leaf ms (start s)) j) ∙ i))) (λ j. let q = ltb-true (start t) (start s) j in omega (arith, low.1)) (or_true (not (leaf ms (start s))) (ltb (start t) (start s)) a.1)),
+          λ i. (low.0, ⊎_elim (λ j. absurd (clash (sym (not-true (leaf ms (start s)) j) ∙ i))) (λ j. let q = ltb-true (start t) (start s) j in omega (arith, low.1)) (or_cases (not (leaf ms (start s))) (ltb (start t) (start s)) a.1)),
           λ r m i. ⊎_elim (λ (j : r ≡ t). subst (Low ms (best ms t ss)) (sym j) low) (λ k. y.1 r k i) (mem_cases m),
         )
     go false e x y = (x.0, λ r m i. ⊎_elim (λ (j : r ≡ t). subst (Low ms (best ms s ss)) (sym j) (head (ap (λ z. leaf ms (start z)) (sym j) ∙ i))) (λ k. x.1 r k i) (mem_cases m))
@@ -218,7 +212,7 @@ best_low ms s (t ∷ ss) = go (better ms s t) refl (best_low ms s ss) (best_low 
         head : leaf ms (start t) ≡ true → Low ms (best ms s ss) t
         head i =
             let a : (not (leaf ms (start s)) || ltb (start t) (start s)) ≡ false = second (leaf ms (start t)) (not (leaf ms (start s)) || ltb (start t) (start s)) e i in
-            let b = or_false (not (leaf ms (start s))) (ltb (start t) (start s)) a in
+            let b = or_parts (not (leaf ms (start s))) (ltb (start t) (start s)) a in
             let low = x.0 (not-false (leaf ms (start s)) b.0) in
             let q = ltb-false (start t) (start s) b.1 in
             (low.0, omega (arith, low.1))

@@ -2,21 +2,21 @@
 use Rattle.std.proofs.Common.{◌≡◌, ℕ, Bool, true, false, not, eqb, List, [], ◌∷◌, sym, refl, ap, ◌∙◌, inl, inr, ⊎_elim, eq-eqb, eqb-true}
 use native.Mathlib.Decide.{ℕ_discrete}
 use borrow.Author.Tests.{not-true, clash}
+use Rattle.std.proofs.lemmas.Bool.{and_parts, and_from, or_cases, or_left, or_right, false_from_ne_true}
 use Rattle.mesh.specs.Lists.{Mem, now, later, Apart, no_one, one_more}
 use Rattle.mesh.specs.Sides.{Side, side}
 use Rattle.forest.specs.Marks.{same_side, has_side, marked_edges, Marked, is_marked}
-use Rattle.mesh.proofs.Tests.{and_true, true_and, or_true, or_left, or_right, is_false}
 use Rattle.mesh.proofs.Members.{mem_cases, mem_eq}
 
 pub same_true : (s t : Side) → same_side s t ≡ true → s ≡ t
-same_true (side a b) (side c d) e = let h = and_true (eqb a c) (eqb b d) e in let i = eqb-true a c h.0 in let j = eqb-true b d h.1 in cc
+same_true (side a b) (side c d) e = let h = and_parts (eqb a c) (eqb b d) e in let i = eqb-true a c h.0 in let j = eqb-true b d h.1 in cc
 
 pub true_same : (s t : Side) → s ≡ t → same_side s t ≡ true
-true_same (side a b) (side c d) e = let i : a ≡ c = cc in let j : b ≡ d = cc in true_and (eqb a c) (eqb b d) (eq-eqb a c i) (eq-eqb b d j)
+true_same (side a b) (side c d) e = let i : a ≡ c = cc in let j : b ≡ d = cc in and_from (eqb a c) (eqb b d) (eq-eqb a c i) (eq-eqb b d j)
 
 pub has_mem : (s : Side) (ss : List Side) → has_side s ss ≡ true → Mem s ss
 has_mem s [] e = absurd (clash e)
-has_mem s (t ∷ ss) e = ⊎_elim (λ i. mem_eq (same_true s t i) now) (λ i. later (has_mem s ss i)) (or_true (same_side s t) (has_side s ss) e)
+has_mem s (t ∷ ss) e = ⊎_elim (λ i. mem_eq (same_true s t i) now) (λ i. later (has_mem s ss i)) (or_cases (same_side s t) (has_side s ss) e)
 
 pub mem_has : (s : Side) (ss : List Side) → Mem s ss → has_side s ss ≡ true
 mem_has s [] m = elim m [ ]
@@ -26,7 +26,7 @@ pub has_out : (s : Side) (ss : List Side) → has_side s ss ≡ false → Mem s 
 has_out s ss e m = clash (sym e ∙ mem_has s ss m)
 
 pub out_has : (s : Side) (ss : List Side) → (Mem s ss → ⊥) → has_side s ss ≡ false
-out_has s ss n = is_false (has_side s ss) (λ e. n (has_mem s ss e))
+out_has s ss n = false_from_ne_true (has_side s ss) (λ e. n (has_mem s ss e))
 
 pub absent_out : (s : Side) (ss : List Side) → not (has_side s ss) ≡ true → Mem s ss → ⊥
 absent_out s ss e = has_out s ss (not-true (has_side s ss) e)
@@ -40,7 +40,7 @@ Unmarked M v z = M v z → ⊥
 
 module _ (ms : List Side) (v x : ℕ) where
   pub marks_true : is_marked ms v x ≡ true → Marked ms v x
-  marks_true e = ⊎_elim (λ i. inl (has_mem (side v x) ms i)) (λ i. inr (has_mem (side x v) ms i)) (or_true (has_side (side v x) ms) (has_side (side x v) ms) e)
+  marks_true e = ⊎_elim (λ i. inl (has_mem (side v x) ms i)) (λ i. inr (has_mem (side x v) ms i)) (or_cases (has_side (side v x) ms) (has_side (side x v) ms) e)
 
   pub true_marks : Marked ms v x → is_marked ms v x ≡ true
   true_marks m = ⊎_elim (λ k. or_left (has_side (side v x) ms) (has_side (side x v) ms) (mem_has (side v x) ms k)) (λ k. or_right (has_side (side v x) ms) (has_side (side x v) ms) (mem_has (side x v) ms k)) m
@@ -49,7 +49,7 @@ module _ (ms : List Side) (v x : ℕ) where
   marks_false e m = clash (sym e ∙ true_marks m)
 
   pub false_marks : Unmarked (Marked ms) v x → is_marked ms v x ≡ false
-  false_marks n = is_false (is_marked ms v x) (λ e. n (marks_true e))
+  false_marks n = false_from_ne_true (is_marked ms v x) (λ e. n (marks_true e))
 
   pub marked_dec : Dec (Marked ms v x)
   marked_dec = go (is_marked ms v x) refl

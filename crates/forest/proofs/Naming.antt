@@ -1,6 +1,7 @@
 -- The polygons by the numbers of their positions, in order.
-use Rattle.std.proofs.Common.{◌≡◌, ℕ, zero, suc, ◌-◌, ◌<◌, ◌≤◌, Bool, true, false, cond, eqb, List, [], ◌∷◌, ◌++◌, map, length, get_or, take, drop, refl, ap, ◌∙◌, arith}
+use Rattle.std.proofs.Common.{◌≡◌, ℕ, suc, ◌-◌, ◌<◌, ◌≤◌, Bool, true, false, cond, eqb, List, [], ◌∷◌, ◌++◌, map, get_or, take, drop, refl, ap, ◌∙◌, arith}
 use borrow.Author.Tests.{eqb-false}
+use Rattle.std.proofs.lemmas.List.{get_or-map}
 use Rattle.mesh.specs.Lists.{Apart, Mem, later, now}
 use Rattle.mesh.specs.Triangles.{Tri, tri}
 use Rattle.mesh.specs.Sides.{Side, side}
@@ -27,11 +28,6 @@ renamed_same f g (tri x y z ∷ us) h =
     let r = renamed_same f g us (λ v x y l. h v x y (there l)) in
     cc
 
-nth_map : (f : Side → ℕ) (xs : List Side) (d : Side) (i : ℕ) → i < length xs → get_or (map f xs) i 0 ≡ f (get_or xs i d)
-nth_map f [] d i h = absurd (omega arith)
-nth_map f (x ∷ xs) d zero h = refl
-nth_map f (x ∷ xs) d (suc i) h = nth_map f xs d i (omega arith)
-
 wrapped : (n j : ℕ) → 0 < n → j ≤ n → cond (eqb j n) 0 j < n
 wrapped n j h k = go (eqb j n) refl
   where
@@ -54,7 +50,7 @@ module _ (V : ℕ) (ts : List Tri) (ms : List Side) (g : Good V ts) (edges : Edg
           let w = part_within p l in
           let i = wrapped (around ms k) v (omega (arith, ready.0)) w.1 in
           let e = tree_length V ts ms g edges k ready in
-          nth_map number (loop_of ts ms k) (side 0 0) (cond (eqb v (around ms k)) 0 v) (omega arith)
+          get_or-map number (loop_of ts ms k) (cond (eqb v (around ms k)) 0 v) (side 0 0) 0 (omega arith)
 
   pub polygons_named : (ks : List ℕ) → ((k : ℕ) → Mem k ks → Ready ts ms k) → (cs : List Code) → Coded ms ks cs → polygons ts ms ks (map number (positions ts ms ks)) cs ≡ named_polygons number ts ms ks cs
   polygons_named [] ready cs c = refl

@@ -2,13 +2,13 @@
 use Rattle.std.proofs.Common.{◌≡◌, ℕ, suc, ◌+◌, ◌<◌, ◌≤◌, Bool, true, false, cond, eqb, ◌⊎◌, List, [], ◌∷◌, length, get_or, sym, refl, ap, ◌∙◌, inl, inr, ⊎_elim, arith, eqb-true}
 use native.Mathlib.Decide.{ℕ_discrete}
 use borrow.Author.Tests.{eqb-false, clash}
+use Rattle.std.proofs.lemmas.Bool.{or_cases, or_parts}
 use Rattle.mesh.specs.Lists.{Mem, now, later, Apart, no_one, one_more}
 use Rattle.mesh.specs.Sides.{Side}
 use Rattle.forest.specs.Marks.{same_side}
 use Rattle.forest.specs.Trees.{start}
 use Rattle.forest.specs.Numbering.{has, unused, parents}
 use Rattle.mesh.proofs.Members.{mem_cases, mem_eq}
-use Rattle.mesh.proofs.Tests.{or_true, or_false}
 use Rattle.forest.proofs.Marking.{same_true, true_same}
 
 -- a position, by the side that it starts, with its number
@@ -26,12 +26,12 @@ number_of (entry t n ∷ es) s = cond (same_side t s) n (number_of es s)
 
 pub has_true : (v : ℕ) (xs : List ℕ) → has v xs ≡ true → Mem v xs
 has_true v [] e = absurd (clash e)
-has_true v (x ∷ xs) e = ⊎_elim (λ i. rw (eqb-true x v i) now) (λ i. later (has_true v xs i)) (or_true (eqb x v) (has v xs) e)
+has_true v (x ∷ xs) e = ⊎_elim (λ i. rw (eqb-true x v i) now) (λ i. later (has_true v xs i)) (or_cases (eqb x v) (has v xs) e)
 
 pub has_false : (v : ℕ) (xs : List ℕ) → has v xs ≡ false → Mem v xs → ⊥
 has_false v [] e m = elim m [ ]
 has_false v (x ∷ xs) e m =
-    let h = or_false (eqb x v) (has v xs) e in
+    let h = or_parts (eqb x v) (has v xs) e in
     ⊎_elim (λ (i : v ≡ x). eqb-false x v h.0 (sym i)) (λ k. has_false v xs h.1 k) (mem_cases m)
 
 -- an earlier position's vertex takes the next number; a new one keeps its own

@@ -1,5 +1,6 @@
 -- The new numbers of the corners: each run has that of its position.
 use Rattle.std.proofs.Common.{◌≡◌, ℕ, Bool, true, false, cond, eqb, List, map, length, sym, refl, ap, ◌∙◌, subst, eq-eqb, eqb-true}
+use Rattle.std.proofs.lemmas.Bool.{and_parts, and_from}
 use Rattle.mesh.specs.Triangles.{Tri}
 use Rattle.mesh.specs.Sides.{Side, side, back}
 use Rattle.forest.specs.Marks.{Marked, has_side}
@@ -8,7 +9,6 @@ use Rattle.forest.specs.Roots.{mirrored}
 use Rattle.forest.specs.Loops.{flipped, read_as, hop, run_after}
 use Rattle.forest.specs.Numbering.{passes}
 use Rattle.mesh.proofs.Members.{mem_eq}
-use Rattle.mesh.proofs.Tests.{and_true, true_and}
 use Rattle.forest.proofs.Sectors.{Sector, On, sector_same, sector_apart}
 use Rattle.forest.proofs.Marking.{Unmarked, marked_back, mem_has, has_mem}
 use Rattle.forest.proofs.Hops.{flag, turns, hop_goes, hop_start, nx, pr, nx_pr, pr_ours, pr_end, src, src_by, src_ours, src_end, src_flag, start_back}
@@ -24,7 +24,7 @@ by_flag true x y = refl
 by_flag false x y = refl
 
 pub passes_end : (ts : List Tri) (ms : List Side) (v x y : ℕ) (s : Side) → passed ts ms v x y s ≡ true → end s ≡ v
-passes_end ts ms v x y s e = let b = flag ts ms (start s) in eqb-true (end s) v (and_true (eqb (end s) v) (has_side (cond b (side y x) (side x y)) (run_after ts ms b s)) e).0
+passes_end ts ms v x y s e = let b = flag ts ms (start s) in eqb-true (end s) v (and_parts (eqb (end s) v) (has_side (cond b (side y x) (side x y)) (run_after ts ms b s)) e).0
 
 module _ (V : ℕ) (ts : List Tri) (ms : List Side) (g : Good V ts) (edges : EdgesIn ts ms) where
   abbrev Turn : (b : Bool) (u v : ℕ) → Marked ms u v → Turning (length ts) (read_as b ts) ms u v
@@ -35,7 +35,7 @@ module _ (V : ℕ) (ts : List Tri) (ms : List Side) (g : Good V ts) (edges : Edg
   passes_on u v m x y e b f =
       let c = flag ts ms u in
       let cs = run_after ts ms c (side u v) in
-      let h = (and_true (eqb v v) (has_side (cond c (side y x) (side x y)) cs) e).1 in
+      let h = (and_parts (eqb v v) (has_side (cond c (side y x) (side x y)) cs) e).1 in
       subst (λ (b : Bool). On (Turn b u v m).sector (cond b y x) (cond b x y)) f
       ((Turn c u v m).run_on (cond c y x) (cond c x y) (mem_eq (sym (by_flag c x y)) (has_mem (cond c (side y x) (side x y)) cs h)))
 
@@ -48,7 +48,7 @@ module _ (V : ℕ) (ts : List Tri) (ms : List Side) (g : Good V ts) (edges : Edg
       let cs = run_after ts ms c (side u v) in
       let a = Turn c u v m in
       let i = (sector_same (read_as c ts) v (Unmarked (Marked ms) v) ((good_read c V ts g).into v) e k a.sector (λ f. f n) (λ f. f a.marked)).1 (cond c y x) (cond c x y) o in
-      true_and (eqb v v) (has_side (cond c (side y x) (side x y)) cs) (eq-eqb v v refl) (mem_has (cond c (side y x) (side x y)) cs (mem_eq (by_flag c x y) (a.runs (cond c y x) (cond c x y) i))))
+      and_from (eqb v v) (has_side (cond c (side y x) (side x y)) cs) (eq-eqb v v refl) (mem_has (cond c (side y x) (side x y)) cs (mem_eq (by_flag c x y) (a.runs (cond c y x) (cond c x y) i))))
 
   same_start : (u u' v : ℕ) → Marked ms u v → Marked ms u' v → (x y : ℕ) → passed ts ms v x y (side u v) ≡ true → passed ts ms v x y (side u' v) ≡ true → u ≡ u'
   same_start u u' v m m' x y e e' =

@@ -6,6 +6,7 @@ use lib.ListN.{length-map}
 use Rattle.std.specs.Option.{option_map}
 use Rattle.std.specs.List.{slice_get}
 use Rattle.fault.specs.declared.fault.Fault.TheVariants.{NoDisplacedPlace}
+use Rattle.fault.proofs.Orders.{mapped_none}
 use Rattle.place.specs.Kinds.{Kind}
 use Rattle.mesh.specs.Lists.{Apart, Mem, later, no_one, now, one_more}
 use Rattle.mesh.specs.Triangles.{Tri}
@@ -20,7 +21,7 @@ use Rattle.forest.specs.Places.{added, displaced_at, first_refused, moved, place
 use Rattle.mesh.proofs.Members.{mem_eq}
 use Rattle.mesh.proofs.Tests.{none_some, some_inj}
 use Rattle.forest.proofs.Numbers.{entries, entry, numbered_form, numbered_side}
-use Rattle.forest.proofs.Checking.{mapped_none, marks_edges}
+use Rattle.forest.proofs.Checking.{marks_edges}
 use Rattle.forest.proofs.Keeping.{number_entry, positions_numbered, split_keeps}
 
 module _ {A : Type 0} where

@@ -2,6 +2,7 @@
 use Rattle.std.proofs.Common.{◌≡◌, ℕ, zero, suc, ◌<◌, Bool, true, false, cond, not, eqb, ◌⊎◌, List, [], ◌∷◌, filter, sym, refl, ap, ◌∙◌, subst, inl, inr, ⊎_elim, arith}
 use native.Mathlib.Decide.{ℕ_discrete}
 use borrow.Author.Tests.{eqb-false, not-true, clash}
+use Rattle.std.proofs.lemmas.Bool.{and_parts}
 use Rattle.mesh.specs.Lists.{Mem, now, later}
 use Rattle.mesh.specs.Triangles.{Tri}
 use Rattle.mesh.specs.Sides.{Side, side}
@@ -11,7 +12,6 @@ use Rattle.forest.specs.Trees.{merged, labels, own, label, loop_free, start, end
 use Rattle.forest.specs.Roots.{mirrored}
 use Rattle.forest.specs.Loops.{read_as, loop, hop}
 use Rattle.mesh.proofs.Members.{mem_cases, mem_kept, mem_eq}
-use Rattle.mesh.proofs.Tests.{and_true}
 use Rattle.forest.proofs.Sectors.{Sector, one, more, sector_same}
 use Rattle.forest.proofs.Marking.{Unmarked, same_true, true_same, marked_back, marked_dec}
 use Rattle.forest.proofs.Hops.{next, flag, turns, hop_goes, next_hop, next_start}
@@ -24,7 +24,7 @@ module _ (p : Side → Bool) (i j : ℕ) where
   apart_after : (k l : ℕ → ℕ) → Finer k l → l i ≡ l j → (k i ≡ k j → ⊥) → (ms : List Side) → loop_free l ms ≡ true → labels k (filter p ms) i ≡ labels k (filter p ms) j → ⊥
   apart_after k l f e n [] free = n
   apart_after k l f e n (side a b ∷ ms) free =
-      let h = and_true (not (eqb (l a) (l b))) (loop_free (λ v. merged (l a) (l b) (l v)) ms) free in
+      let h = and_parts (not (eqb (l a) (l b))) (loop_free (λ v. merged (l a) (l b) (l v)) ms) free in
       let q = eqb-false (l a) (l b) (not-true (eqb (l a) (l b)) h.0) in
       go (p (side a b)) (apart_after (λ v. merged (k a) (k b) (k v)) (λ v. merged (l a) (l b) (l v)) (finer_both k l f a b) (ap (merged (l a) (l b)) e) (still q) ms h.1)
       (apart_after k (λ v. merged (l a) (l b) (l v)) (finer_one k l f a b) (ap (merged (l a) (l b)) e) n ms h.1)
@@ -53,7 +53,7 @@ but s m = not (same_side m s)
 pub apart_without : (l k : ℕ → ℕ) → Finer k l → (ms : List Side) (i j : ℕ) → Mem (side i j) ms → loop_free l ms ≡ true → labels k (filter (but (side i j)) ms) i ≡ labels k (filter (but (side i j)) ms) j → ⊥
 apart_without l k f [] i j m free = elim m [ ]
 apart_without l k f (side a b ∷ ms) i j m free =
-    let h = and_true (not (eqb (l a) (l b))) (loop_free (λ v. merged (l a) (l b) (l v)) ms) free in
+    let h = and_parts (not (eqb (l a) (l b))) (loop_free (λ v. merged (l a) (l b) (l v)) ms) free in
     let q = eqb-false (l a) (l b) (not-true (eqb (l a) (l b)) h.0) in
     go (same_side (side a b) (side i j)) refl q h.1 (mem_cases m)
     (λ r. apart_without (λ v. merged (l a) (l b) (l v)) (λ v. merged (k a) (k b) (k v)) (finer_both k l f a b) ms i j r h.1)
@@ -112,7 +112,7 @@ module _ (N : Side → Side) where
 
 -- a set of marked sides that is closed under the step, and of which each comes round
 module _ (V : ℕ) (ts : List Tri) (ms : List Side) (g : Good V ts) (edges : EdgesIn ts ms) (free : loop_free own ms ≡ true)
-    (Orb : Side → Type 0) (ours : (s : Side) → Orb s → Ours ms s) (on-ward : (s : Side) → Orb s → Orb (next ts ms s)) (comes : (s : Side) → Orb s → (n : ℕ) × Mem s (loop (next ts ms) n (next ts ms s))) where
+    (Orb : Side → Type 0) (ours : (s : Side) → Orb s → Ours ms s) (onward : (s : Side) → Orb s → Orb (next ts ms s)) (comes : (s : Side) → Orb s → (n : ℕ) × Mem s (loop (next ts ms) n (next ts ms s))) where
   -- over an edge that parts the tree, the loop comes back
   module _ (i j u v : ℕ) (m : Mem (side i j) ms) (ends : ((u ≡ i) × (v ≡ j)) ⊎ ((u ≡ j) × (v ≡ i))) where
     part : ℕ → ℕ
@@ -153,7 +153,7 @@ module _ (V : ℕ) (ts : List Tri) (ms : List Side) (g : Good V ts) (edges : Edg
 
     comes_back : (n : ℕ) (t : Side) → Orb t → part (start t) ≡ part v → Mem (side u v) (loop (next ts ms) n t) → Orb (side v u)
     comes_back zero t o e k = elim k [ ]
-    comes_back (suc n) t o e k = go (mem_cases k) (ℕ_discrete (part (start (next ts ms t))) (part v)) (λ e q. comes_back n (next ts ms t) (on-ward t o) e q)
+    comes_back (suc n) t o e k = go (mem_cases k) (ℕ_discrete (part (start (next ts ms t))) (part v)) (λ e q. comes_back n (next ts ms t) (onward t o) e q)
       where
         go : (side u v ≡ t) ⊎ Mem (side u v) (loop (next ts ms) n (next ts ms t)) → Dec (part (start (next ts ms t)) ≡ part v)
             → (part (start (next ts ms t)) ≡ part v → Mem (side u v) (loop (next ts ms) n (next ts ms t)) → Orb (side v u)) → Orb (side v u)
@@ -172,8 +172,8 @@ module _ (V : ℕ) (ts : List Tri) (ms : List Side) (g : Good V ts) (edges : Edg
       begin f = ap f (next_start V ts ms g edges (side u v) (ours (side u v) o))
 
       go : Marked ms u v → Orb (side v u)
-      go (inl m) = comes_back u v u v m (inl (refl, refl)) r.0 (next ts ms (side u v)) (on-ward (side u v) o) (begin (part u v u v m (inl (refl, refl)))) r.1
-      go (inr m) = comes_back v u u v m (inr (refl, refl)) r.0 (next ts ms (side u v)) (on-ward (side u v) o) (begin (part v u u v m (inr (refl, refl)))) r.1
+      go (inl m) = comes_back u v u v m (inl (refl, refl)) r.0 (next ts ms (side u v)) (onward (side u v) o) (begin (part u v u v m (inl (refl, refl)))) r.1
+      go (inr m) = comes_back v u u v m (inr (refl, refl)) r.0 (next ts ms (side u v)) (onward (side u v) o) (begin (part v u u v m (inr (refl, refl)))) r.1
 
   -- and with one side at v all that are marked
   module _ (v : ℕ) where
@@ -191,7 +191,7 @@ module _ (V : ℕ) (ts : List Tri) (ms : List Side) (g : Good V ts) (edges : Edg
         let e = (sector_same (read_as (flag ts ms v) ts) v (Unmarked (Marked ms) v) ((good_read (flag ts ms v) V ts g).into v) refl k a.sector (λ f. f m) (λ f. f a.marked)).0 in
         let f : flag ts ms x ≡ flag ts ms v = ap (mirrored ts ms) (label_edge ms x v xv) in
         let n : next ts ms (side x v) ≡ side v w = next_hop ts ms (side x v) ∙ ap (λ b. hop ts ms b (side x v)) f ∙ hop_goes V ts ms g edges (flag ts ms v) x v xv ∙ ap (λ z. side v z) (sym e) in
-        subst Orb n (on-ward (side x v) (orb_back v x o))
+        subst Orb n (onward (side x v) (orb_back v x o))
 
     along : {p x : ℕ} → Walk (Link (read_as (flag ts ms v) ts) v) p x → Orb (side v x) → (w y z : ℕ) → Sector (read_as (flag ts ms v) ts) v (Unmarked (Marked ms) v) w y z p → Marked ms v w → Orb (side v w)
     along (stop {x}) o w y z k m = arrive x o k m

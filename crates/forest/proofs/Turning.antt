@@ -1,6 +1,7 @@
 -- The next marked side is there, and the mesh turned round leads back.
 use Rattle.std.proofs.Common.{◌≡◌, ℕ, zero, suc, ◌<◌, ◌≤◌, Bool, true, false, cond, not, ◌&&◌, eqb, ◌⊎◌, List, [], ◌∷◌, map, length, Some, sym, refl, ap, subst, inl, inr, ⊎_elim, arith, eq-eqb, eqb-true}
 use borrow.Author.Tests.{clash}
+use Rattle.std.proofs.lemmas.Bool.{and_parts}
 use lib.ListN.{length-map}
 use Rattle.mesh.specs.Lists.{Mem}
 use Rattle.mesh.specs.Triangles.{Tri, tri}
@@ -9,7 +10,6 @@ use Rattle.mesh.specs.Rings.{at_first, at_second, at_third, Link, here, there}
 use Rattle.mesh.specs.Closed.{Closed}
 use Rattle.forest.specs.Marks.{Marked, is_marked}
 use Rattle.forest.specs.Loops.{flipped, read_as, apex, found, run}
-use Rattle.mesh.proofs.Tests.{and_true}
 use Rattle.mesh.proofs.Walks.{Sharp}
 use Rattle.mesh.proofs.Links.{Turned, turned, link_turn, link_side, side_link}
 use Rattle.forest.proofs.Marking.{Unmarked, true_marks, false_marks, unmarked_dec, marked_of, marked_back}
@@ -38,13 +38,13 @@ apex_link [] x y z l = elim l [ ]
 apex_link (tri a b c ∷ ts) x y z l = go l (λ z k. apex_link ts x y z k)
   where
     first : (eqb a x && eqb b y) ≡ true → Link (tri a b c ∷ ts) x y c
-    first e = let h = and_true (eqb a x) (eqb b y) e in rw (← eqb-true a x h.0, ← eqb-true b y h.1) (here at_first)
+    first e = let h = and_parts (eqb a x) (eqb b y) e in rw (← eqb-true a x h.0, ← eqb-true b y h.1) (here at_first)
 
     second : (eqb b x && eqb c y) ≡ true → Link (tri a b c ∷ ts) x y a
-    second e = let h = and_true (eqb b x) (eqb c y) e in rw (← eqb-true b x h.0, ← eqb-true c y h.1) (here at_second)
+    second e = let h = and_parts (eqb b x) (eqb c y) e in rw (← eqb-true b x h.0, ← eqb-true c y h.1) (here at_second)
 
     third : (eqb c x && eqb a y) ≡ true → Link (tri a b c ∷ ts) x y b
-    third e = let h = and_true (eqb c x) (eqb a y) e in rw (← eqb-true c x h.0, ← eqb-true a y h.1) (here at_third)
+    third e = let h = and_parts (eqb c x) (eqb a y) e in rw (← eqb-true c x h.0, ← eqb-true a y h.1) (here at_third)
 
     t₁ : Bool
     t₁ = eqb a x && eqb b y
@@ -134,7 +134,7 @@ pub record Turning (n : ℕ) (us : List Tri) (ms : List Side) (u v : ℕ) : Type
   pub runs : (p q : ℕ) → On sector p q → Mem (side p q) (run n us ms u v)
   pub run_on : (p q : ℕ) → Mem (side p q) (run n us ms u v) → On sector p q
 
-module _ (V : ℕ) (us : List Tri) (ms : List Side) (g : Good V us) (there-are : EdgesIn us ms) where
+module _ (V : ℕ) (us : List Tri) (ms : List Side) (g : Good V us) (edges_there : EdgesIn us ms) where
   apex_is : (v x t : ℕ) → Link us v x t → apex us t v ≡ x
   apex_is v x t l = g.sharp t v (apex us t v) x (apex_link us t v x (link_turn (link_turn l))) (link_turn (link_turn l))
 
@@ -174,8 +174,8 @@ module _ (V : ℕ) (us : List Tri) (ms : List Side) (g : Good V us) (there-are :
   -- a marked side has a next
   pub turning : (n : ℕ) → length us ≤ n → (u v : ℕ) → Marked ms u v → Turning n us ms u v
   turning n long u v m =
-      let l = there-are u v m in
-      let k = there-are v u (marked_back ms u v m) in
+      let l = edges_there u v m in
+      let k = edges_there v u (marked_back ms u v m) in
       let x = l.0 in
       let here = link_turn l.1 in
       let Free = Unmarked (Marked ms) v in

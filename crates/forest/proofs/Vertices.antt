@@ -4,13 +4,13 @@ use native.Mathlib.Decide.{ℕ_discrete}
 use borrow.Author.Tests.{eqb-false, not-true, clash}
 use lib.ListN.{length-map}
 use Rattle.std.proofs.lemmas.List.Filters.{length-filter_both}
+use Rattle.std.proofs.lemmas.Bool.{and_parts}
 use Rattle.mesh.specs.Lists.{Mem, now, later, Apart, no_one, one_more}
 use Rattle.mesh.specs.Sides.{Side, side, back}
 use Rattle.forest.specs.Marks.{Marked}
 use Rattle.forest.specs.Trees.{merged, labels, own, label, loop_free, start, end, tree_edges, below, trees}
 use Rattle.forest.specs.Numbering.{has, unused}
 use Rattle.mesh.proofs.Members.{mem_cases, kept_mem, mem_kept, kept_apart, mem_left, mem_right, mem_split, mem_eq, apart_append, same_length}
-use Rattle.mesh.proofs.Tests.{and_true}
 use Rattle.forest.proofs.Labels.{merged_le, Ours, of_mem, below_mem, below_apart, length_below, trees_apart, tree_some, tree_there, ours_two, two_apart, two_ours}
 use Rattle.forest.proofs.Numbers.{has_true, has_false}
 
@@ -70,7 +70,7 @@ pub labels_counted : (V : ℕ) (l : ℕ → ℕ) (ms : List Side) → Still l �
     → length (filter (Fixed (labels l ms)) (below V)) + length ms ≡ length (filter (Fixed l) (below V))
 labels_counted V l [] still low small free = omega arith
 labels_counted V l (side i j ∷ ms) still low small free =
-    let f = and_true (not (eqb (l i) (l j))) (loop_free (λ v. merged (l i) (l j) (l v)) ms) free in
+    let f = and_parts (not (eqb (l i) (l j))) (loop_free (λ v. merged (l i) (l j) (l v)) ms) free in
     let apart = eqb-false (l i) (l j) (not-true (eqb (l i) (l j)) f.0) in
     let h = labels_counted V (λ v. merged (l i) (l j) (l v)) ms (merge_still l still i j) (λ v. let a = merged_le (l i) (l j) (l v) in let b = low v in omega arith) (λ s m. small s (later m)) f.1 in
     let k = one_less apart in
@@ -217,7 +217,7 @@ mem_firsts seen (t ∷ ss) {s} m n = go (has (start t) seen) refl (mem_cases m) 
 -- V' + K = V + F
 module _ (V : ℕ) (ms : List Side) (ss : List Side) (touched : (v : ℕ) → Dec (Touched ms v)) (small : (s : Side) → Ours ms s → start s < V)
     (free : loop_free own ms ≡ true) (apart : Apart ms) (rising : (s : Side) → Mem s ms → start s < end s)
-    (ss_apart : Apart ss) (ss-ours : (s : Side) → Mem s ss → Ours ms s) (ours-ss : (s : Side) → Ours ms s → Mem s ss) where
+    (ss_apart : Apart ss) (all_ours : (s : Side) → Mem s ss → Ours ms s) (ours_all : (s : Side) → Ours ms s → Mem s ss) where
   t : ℕ → Bool
   t v = decided (touched v)
 
@@ -225,7 +225,7 @@ module _ (V : ℕ) (ms : List Side) (ss : List Side) (touched : (v : ℕ) → De
   mem_small (side u v) m = (small (side u v) (inl m), small (side v u) (inr m))
 
   pub positions_counted : length ss ≡ 2 * length ms
-  positions_counted = let h = same_length ss_apart (two_apart ms apart rising) (λ z m. ours_two ms z (ss-ours z m)) (λ z m. ours-ss z (two_ours ms z m)) in omega (arith, length-append ms (map back ms), length-map ms back)
+  positions_counted = let h = same_length ss_apart (two_apart ms apart rising) (λ z m. ours_two ms z (all_ours z m)) (λ z m. ours_all z (two_ours ms z m)) in omega (arith, length-append ms (map back ms), length-map ms back)
 
   firsts_touched : length (firsts [] ss) ≡ length (filter t (below V))
   unfolding t
@@ -236,11 +236,11 @@ module _ (V : ℕ) (ms : List Side) (ss : List Side) (touched : (v : ℕ) → De
 
       to : (v : ℕ) → Mem v (firsts [] ss) → Mem v (filter t (below V))
       to v m =
-          let r = (firsts_mem [] ss v m).1 in let o = ss-ours r.0 r.1 in
+          let r = (firsts_mem [] ss v m).1 in let o = all_ours r.0 r.1 in
           mem_eq (sym r.2) (mem_kept t (below_mem V (start r.0) (small r.0 o)) (true_decided (touched (start r.0)) (touched_by r.0 o)))
 
       from : (v : ℕ) → Mem v (filter t (below V)) → Mem v (firsts [] ss)
-      from v m = let r = kept_mem t (below V) m in let x = decided_true (touched v) r.1 in mem_firsts [] ss (ours-ss (side v x.0) x.1) (λ k. elim k [ ])
+      from v m = let r = kept_mem t (below V) m in let x = decided_true (touched v) r.1 in mem_firsts [] ss (ours_all (side v x.0) x.1) (λ k. elim k [ ])
 
   fixed_trees : length (trees V ms) + length (filter (λ v. not (t v)) (below V)) ≡ length (filter (Fixed (label ms)) (below V))
   unfolding t

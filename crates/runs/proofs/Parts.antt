@@ -3,12 +3,12 @@ use Rattle.std.proofs.Common.{◌≡◌, ℕ, zero, suc, ◌+◌, ◌-◌, ◌*�
 use lib.ListN.{length-map}
 use Rattle.std.specs.List.{range_with_len}
 use Rattle.fault.specs.declared.fault.Fault.TheVariants.{RecordSize}
+use Rattle.fault.proofs.Orders.{test_passed}
 use Rattle.place.specs.Kinds.{Kind, Lawful}
 use Rattle.mesh.specs.Triangles.{Tri}
 use Rattle.mesh.specs.Sides.{Side}
 use Rattle.mesh.specs.Edges.{edges}
-use Rattle.mesh.proofs.Indexed.{length_counted}
-use Rattle.sheet.specs.Bounds.{unless_none}
+use Rattle.std.proofs.lemmas.List.FromFn.{length-map-range_with_len}
 use Rattle.record.specs.Packing.{mark_in, marks_set}
 use Rattle.record.specs.Parts.{code_count, displacements_from, marks_of, codes_read, displacements_of, set_count, due_size}
 use Rattle.record.specs.Checks.{size_fault}
@@ -52,7 +52,7 @@ marked_counted ts bs =
     omega arith
 
 pub codes_counted : (bs : List ℕ) (m : ℕ) → length (record_codes bs m) ≡ code_count bs
-codes_counted bs m = length-map (codes_read bs m) code_of ∙ length_counted _ (code_count bs)
+codes_counted bs m = length-map (codes_read bs m) code_of ∙ length-map-range_with_len _ 0 (code_count bs)
 
 -- each displacement reads whose bytes are there
 all_read : {P D : Type 0} (k : Kind P D) → Lawful k → (n : ℕ) (bs : List ℕ) → n * k.displacement_width ≤ length bs → length (displacements_read k n bs) ≡ n
@@ -69,6 +69,6 @@ all_read k law (suc n) bs h =
 -- two displacements for each mark that is set
 pub displacements_counted : {P D : Type 0} (k : Kind P D) → Lawful k → (bs : List ℕ) (m : ℕ) → size_fault k bs m ≡ None → length (record_displacements k bs m) ≡ 2 * set_count bs m
 displacements_counted k law bs m e =
-    let s = eqb-true (length bs) (due_size k bs m) (unless_none _ RecordSize e) in
+    let s = eqb-true (length bs) (due_size k bs m) (test_passed _ RecordSize e) in
     let l = length-drop (displacements_from bs m) bs in
     all_read k law (2 * set_count bs m) (displacements_of bs m) (omega arith)

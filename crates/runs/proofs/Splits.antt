@@ -3,7 +3,7 @@ use Rattle.std.proofs.Common.{◌≡◌, ℕ, ◌+◌, ◌-◌, ◌*◌, ◌≤�
 use lib.ListN.{length-map}
 use Rattle.fault.specs.declared.fault.Fault.{Fault}
 use Rattle.fault.specs.declared.fault.Fault.TheVariants.{StoreNotClosed, VertexCapacity, TriangleCapacity}
-use Rattle.fault.proofs.Orders.{or_none}
+use Rattle.fault.proofs.Orders.{or_none, test_passed}
 use Rattle.place.specs.Kinds.{Kind, Lawful}
 use Rattle.mesh.specs.Lists.{Mem, now, later}
 use Rattle.mesh.specs.Triangles.{Tri}
@@ -15,7 +15,6 @@ use Rattle.mesh.proofs.Counting.{edges_counted}
 use Rattle.survey.specs.Survey.{survey_fault}
 use Rattle.survey.specs.Theorems.{ClosedInLimits}
 use Rattle.survey.proofs.Exact.{survey_closed}
-use Rattle.sheet.specs.Bounds.{unless_none}
 use Rattle.record.specs.Checks.{head_fault, size_fault, code_bits_fault}
 use Rattle.forest.specs.Polygons.{Code}
 use Rattle.forest.specs.Trees.{trees, tree_edges}
@@ -33,15 +32,15 @@ use Rattle.runs.proofs.Parts.{marked_counted, codes_counted, displacements_count
 use Rattle.runs.proofs.Figures.{figures_agree}
 
 -- what the checks of an accepted record say
-pub record Passed {P D : Type 0} (k : Kind P D) (vertex-room triangle-room : ℕ) (m : Mesh P) (bs : List ℕ) : Type 0 where
+pub record Passed {P D : Type 0} (k : Kind P D) (vertex_room triangle_room : ℕ) (m : Mesh P) (bs : List ℕ) : Type 0 where
   pub marks : marks_fault m bs ≡ None
   pub size : size_fault k bs (edge_total m) ≡ None
-  pub vertices : vertex_total m + edges_marked m bs - trees_formed m bs ≤ vertex-room
-  pub triangles : triangle_total m + 2 * edges_marked m bs - 2 * trees_formed m bs ≤ triangle-room
+  pub vertices : vertex_total m + edges_marked m bs - trees_formed m bs ≤ vertex_room
+  pub triangles : triangle_total m + 2 * edges_marked m bs - 2 * trees_formed m bs ≤ triangle_room
   pub codes : codes_fault m bs ≡ None
   pub places : displacements_fault k m bs ≡ None
 
-pub passed : {P D : Type 0} (k : Kind P D) (vertex-room triangle-room : ℕ) (m : Mesh P) (bs : List ℕ) → record_fault k vertex-room triangle-room m bs ≡ None → Passed k vertex-room triangle-room m bs
+pub passed : {P D : Type 0} (k : Kind P D) (vertex_room triangle_room : ℕ) (m : Mesh P) (bs : List ℕ) → record_fault k vertex_room triangle_room m bs ≡ None → Passed k vertex_room triangle_room m bs
 passed k vr tr m bs e =
     let a = or_none (head_fault k bs (edge_total m)) _ e in
     let b = or_none (marks_fault m bs) _ a.1 in
@@ -53,8 +52,8 @@ passed k vr tr m bs e =
     record {
       marks = b.0;
       size = c.0;
-      vertices = leb-true _ vr (unless_none _ VertexCapacity d.0);
-      triangles = leb-true _ tr (unless_none _ TriangleCapacity f.0);
+      vertices = leb-true _ vr (test_passed _ VertexCapacity d.0);
+      triangles = leb-true _ tr (test_passed _ TriangleCapacity f.0);
       codes = h.0;
       places = h.1;
     }
@@ -81,7 +80,7 @@ half_trees V ts bs n closed e =
     let b = trees_summed V ms (λ s l. (marks_small V ts bs closed s l).0) in
     omega arith
 
-module _ {P D : Type 0} (k : Kind P D) (law : Lawful k) (vertex-room triangle-room : ℕ) (m : Mesh P) (bs : List ℕ) (c : Closed (vertex_total m) m.triangles) (p : Passed k vertex-room triangle-room m bs) where
+module _ {P D : Type 0} (k : Kind P D) (law : Lawful k) (vertex_room triangle_room : ℕ) (m : Mesh P) (bs : List ℕ) (c : Closed (vertex_total m) m.triangles) (p : Passed k vertex_room triangle_room m bs) where
   abbrev V : ℕ
   V = vertex_total m
 
@@ -124,7 +123,7 @@ module _ {P D : Type 0} (k : Kind P D) (law : Lawful k) (vertex-room triangle-ro
   closed_after : Closed (vertex_total (mesh_made k m bs)) (mesh_made k m bs).triangles
   closed_after = subst (λ (n : ℕ). Closed n (split_triangles V ts ms codes)) (sym there) kept.closed
 
-  pub split_kept : SplitKept vertex-room triangle-room m (edges_marked m bs) (trees_formed m bs) (mesh_made k m bs)
+  pub split_kept : SplitKept vertex_room triangle_room m (edges_marked m bs) (trees_formed m bs) (mesh_made k m bs)
   split_kept =
       let a = kept.vertices in
       let b = kept.triangles in

@@ -81,7 +81,7 @@ late_sewing V ts bs cs =
     late_or (option_map CodesOffTree off) (or_else (option_map LoopTooShort early) (option_map SideTwice twice)) (late_at CodesOffTree (λ i. omega arith) off)
     (late_or (option_map LoopTooShort early) (option_map SideTwice twice) (late_at LoopTooShort (λ i. omega arith) early) (late_at SideTwice (λ i. omega arith) twice))
 
-late_record : {P D : Type 0} (k : Kind P D) (vertex-room triangle-room : ℕ) (m : Mesh P) (bs : List ℕ) → Late (record_fault k vertex-room triangle-room m bs)
+late_record : {P D : Type 0} (k : Kind P D) (vertex_room triangle_room : ℕ) (m : Mesh P) (bs : List ℕ) → Late (record_fault k vertex_room triangle_room m bs)
 late_record k vr tr m bs =
     late_or (head_fault k bs (edge_total m)) _ (late_head k bs (edge_total m))
     (late_or (Outcome.marks_fault m bs) _ (late_forest (vertex_total m) m.triangles (record_marks bs (edge_total m)) (code_count bs))
@@ -103,7 +103,7 @@ safe_table true = late_safe None (omega arith)
 safe_table false = (λ e. let r = ap rank e in omega arith, λ e. let r = ap rank e in omega arith)
 
 -- a split call on a store that is closed and the job's
-pub safe_split : {P D : Type 0} (k : Kind P D) (vertex-room triangle-room table : ℕ) (m : Mesh P) (n : Numbers) (bs : List ℕ) → closed_fault m ≡ None → job_fault m n ≡ None → Safe (fault_in (split_answer k vertex-room triangle-room table m n bs))
+pub safe_split : {P D : Type 0} (k : Kind P D) (vertex_room triangle_room table : ℕ) (m : Mesh P) (n : Numbers) (bs : List ℕ) → closed_fault m ≡ None → job_fault m n ≡ None → Safe (fault_in (split_answer k vertex_room triangle_room table m n bs))
 safe_split k vr tr table m n bs c j =
     subst Safe (sym (same (split_fault k vr tr table m n bs) _))
     (safe_or (table_fault vr tr table) _ (safe_table _)

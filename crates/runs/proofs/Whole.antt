@@ -3,6 +3,7 @@ use Rattle.std.proofs.Common.{◌≡◌, ℕ, zero, suc, ◌+◌, ◌*◌, ◌<�
 use Rattle.std.proofs.lemmas.List.{take_all, take-take, take-map}
 use Rattle.std.specs.List.{range_with_len, AllByRecursion, slice_get}
 use Rattle.std.specs.Option.{option_map}
+use Rattle.std.proofs.lemmas.Bool.{cond-true, and_from}
 use Rattle.fault.specs.declared.fault.Fault.{Fault}
 use Rattle.fault.specs.declared.fault.Fault.TheVariants.{StoreNotClosed, StoreNotOfJob}
 use Rattle.fault.proofs.Orders.{or_none}
@@ -11,7 +12,6 @@ use Rattle.mesh.specs.Triangles.{Tri, tri}
 use Rattle.mesh.specs.Growth.{RoomInLimits}
 use Rattle.mesh.specs.Follow.{smaller_parent, back_step, back_steps}
 use Rattle.mesh.specs.Meshes.{Mesh, vertex_total, triangle_total, parents}
-use Rattle.mesh.proofs.Tests.{cond_true, true_and}
 use Rattle.mesh.proofs.Counting.{edges_counted}
 use Rattle.survey.specs.Survey.{survey_fault}
 use Rattle.survey.specs.Theorems.{ClosedInLimits}
@@ -40,7 +40,7 @@ pub record Held {P : Type 0} (base : Mesh P) (m : Mesh P) (n : Numbers) : Type 0
   pub follows : map (followed (parents m)) (take (triangle_total base) m.triangles) ≡ base.triangles
 
 -- an accepted split keeps it
-made_held : {P D : Type 0} (k : Kind P D) (law : Lawful k) (vertex-room triangle-room table : ℕ) → RoomInLimits vertex-room triangle-room → (base m : Mesh P) (n : Numbers) (bs : List ℕ) → split_fault k vertex-room triangle-room table m n bs ≡ None → Held base m n → Held base (mesh_made k m bs) (numbers_with n (edges_marked m bs) (trees_formed m bs))
+made_held : {P D : Type 0} (k : Kind P D) (law : Lawful k) (vertex_room triangle_room table : ℕ) → RoomInLimits vertex_room triangle_room → (base m : Mesh P) (n : Numbers) (bs : List ℕ) → split_fault k vertex_room triangle_room table m n bs ≡ None → Held base m n → Held base (mesh_made k m bs) (numbers_with n (edges_marked m bs) (trees_formed m bs))
 made_held k law vr tr table room base m n bs e h =
     let s = split_outcome_keeps k law vr tr table m n bs e in
     let m' = mesh_made k m bs in
@@ -70,19 +70,19 @@ made_held k law vr tr table room base m n bs e h =
           ∙ h.follows;
     }
 
-module _ {P D : Type 0} (k : Kind P D) (law : Lawful k) (vertex-room triangle-room : ℕ) (room : RoomInLimits vertex-room triangle-room) (base : Mesh P) where
-  next_held : (s : State P) (c : Call) → Held base s.mesh s.numbers → Held base (next k vertex-room triangle-room s c).mesh (next k vertex-room triangle-room s c).numbers
-  next_held s (offer bs table) h = go (split_fault k vertex-room triangle-room table s.mesh s.numbers bs) refl
+module _ {P D : Type 0} (k : Kind P D) (law : Lawful k) (vertex_room triangle_room : ℕ) (room : RoomInLimits vertex_room triangle_room) (base : Mesh P) where
+  next_held : (s : State P) (c : Call) → Held base s.mesh s.numbers → Held base (next k vertex_room triangle_room s c).mesh (next k vertex_room triangle_room s c).numbers
+  next_held s (offer bs table) h = go (split_fault k vertex_room triangle_room table s.mesh s.numbers bs) refl
     where
-      go : (o : Option Fault) → split_fault k vertex-room triangle-room table s.mesh s.numbers bs ≡ o → Held base (mesh_unless o s.mesh (mesh_made k s.mesh bs)) (numbers_kept o s.numbers (numbers_with s.numbers (edges_marked s.mesh bs) (trees_formed s.mesh bs)))
+      go : (o : Option Fault) → split_fault k vertex_room triangle_room table s.mesh s.numbers bs ≡ o → Held base (mesh_unless o s.mesh (mesh_made k s.mesh bs)) (numbers_kept o s.numbers (numbers_with s.numbers (edges_marked s.mesh bs) (trees_formed s.mesh bs)))
       go (Some f) e = h
-      go None e = made_held k law vertex-room triangle-room table room base s.mesh s.numbers bs e h
+      go None e = made_held k law vertex_room triangle_room table room base s.mesh s.numbers bs e h
   next_held s (ask q) h = h
   next_held s (write_sheet n) h = h
 
-  after_held : (cs : List Call) (s : State P) → Held base s.mesh s.numbers → Held base (after k vertex-room triangle-room s cs).mesh (after k vertex-room triangle-room s cs).numbers
+  after_held : (cs : List Call) (s : State P) → Held base s.mesh s.numbers → Held base (after k vertex_room triangle_room s cs).mesh (after k vertex_room triangle_room s cs).numbers
   after_held [] s h = h
-  after_held (c ∷ cs) s h = after_held cs (next k vertex-room triangle-room s c) (next_held s c h)
+  after_held (c ∷ cs) s h = after_held cs (next k vertex_room triangle_room s c) (next_held s c h)
 
   closed_passes : (m : Mesh P) → ClosedInLimits (vertex_total m) m.triangles → closed_fault m ≡ None
   closed_passes m c = ap (λ o. cond (is_some o) (Some StoreNotClosed) None) (closed_survey (vertex_total m) m.triangles c)
@@ -93,7 +93,7 @@ module _ {P D : Type 0} (k : Kind P D) (law : Lawful k) (vertex-room triangle-ro
       let b = h.triangles in
       let c = h.base_vertices in
       let d = h.base_triangles in
-      cond_true _ None (Some StoreNotOfJob) (true_and _ _ (eq-eqb (vertex_total m) (vertices_now n) (omega arith)) (eq-eqb (triangle_total m) (triangles_now n) (omega arith)))
+      cond-true _ None (Some StoreNotOfJob) (and_from _ _ (eq-eqb (vertex_total m) (vertices_now n) (omega arith)) (eq-eqb (triangle_total m) (triangles_now n) (omega arith)))
 
   question_trusts : (m : Mesh P) (q : Question) → Trusts (question_answer m q)
   question_trusts m how_many_vertices = safe_answer
@@ -106,19 +106,19 @@ module _ {P D : Type 0} (k : Kind P D) (law : Lawful k) (vertex-room triangle-ro
   question_trusts m (which_edge e) = safe_answer
   question_trusts m (which_ancestor v) = safe_answer
 
-  answer_trusts : (s : State P) (c : Call) → Held base s.mesh s.numbers → Trusts (answer k vertex-room triangle-room s c)
-  answer_trusts s (offer bs table) h = safe_split k vertex-room triangle-room table s.mesh s.numbers bs (closed_passes s.mesh h.closed) (job_passes s.mesh s.numbers h)
+  answer_trusts : (s : State P) (c : Call) → Held base s.mesh s.numbers → Trusts (answer k vertex_room triangle_room s c)
+  answer_trusts s (offer bs table) h = safe_split k vertex_room triangle_room table s.mesh s.numbers bs (closed_passes s.mesh h.closed) (job_passes s.mesh s.numbers h)
   answer_trusts s (ask q) h = question_trusts s.mesh q
   answer_trusts s (write_sheet n) h = safe_writing k s.mesh n
 
-  answers_trust : (cs : List Call) (s : State P) → Held base s.mesh s.numbers → AllByRecursion Trusts (answers k vertex-room triangle-room s cs)
+  answers_trust : (cs : List Call) (s : State P) → Held base s.mesh s.numbers → AllByRecursion Trusts (answers k vertex_room triangle_room s cs)
   answers_trust [] s h = tt
-  answers_trust (c ∷ cs) s h = (answer_trusts s c h, answers_trust cs (next k vertex-room triangle-room s c) (next_held s c h))
+  answers_trust (c ∷ cs) s h = (answer_trusts s c h, answers_trust cs (next k vertex_room triangle_room s c) (next_held s c h))
 
 -- a tally that grows by what f counts in each accepted record is the sum of f over those
-module _ {P D : Type 0} (k : Kind P D) (vertex-room triangle-room : ℕ) (f : Mesh P → List ℕ → ℕ) (tally : Numbers → ℕ) (grows : (n : Numbers) (m : Mesh P) (bs : List ℕ) → tally (numbers_with n (edges_marked m bs) (trees_formed m bs)) ≡ tally n + f m bs) where
-  next_tally : (s : State P) (c : Call) → tally (next k vertex-room triangle-room s c).numbers ≡ tally s.numbers + share f k vertex-room triangle-room s c
-  next_tally s (offer bs table) = go (split_fault k vertex-room triangle-room table s.mesh s.numbers bs)
+module _ {P D : Type 0} (k : Kind P D) (vertex_room triangle_room : ℕ) (f : Mesh P → List ℕ → ℕ) (tally : Numbers → ℕ) (grows : (n : Numbers) (m : Mesh P) (bs : List ℕ) → tally (numbers_with n (edges_marked m bs) (trees_formed m bs)) ≡ tally n + f m bs) where
+  next_tally : (s : State P) (c : Call) → tally (next k vertex_room triangle_room s c).numbers ≡ tally s.numbers + share f k vertex_room triangle_room s c
+  next_tally s (offer bs table) = go (split_fault k vertex_room triangle_room table s.mesh s.numbers bs)
     where
       go : (o : Option Fault) → tally (numbers_kept o s.numbers (numbers_with s.numbers (edges_marked s.mesh bs) (trees_formed s.mesh bs))) ≡ tally s.numbers + if_accepted o (f s.mesh bs)
       go (Some x) = omega arith
@@ -126,9 +126,9 @@ module _ {P D : Type 0} (k : Kind P D) (vertex-room triangle-room : ℕ) (f : Me
   next_tally s (ask q) = omega arith
   next_tally s (write_sheet n) = omega arith
 
-  pub after_tally : (cs : List Call) (s : State P) → tally (after k vertex-room triangle-room s cs).numbers ≡ tally s.numbers + summed f k vertex-room triangle-room s cs
+  pub after_tally : (cs : List Call) (s : State P) → tally (after k vertex_room triangle_room s cs).numbers ≡ tally s.numbers + summed f k vertex_room triangle_room s cs
   after_tally [] s = omega arith
-  after_tally (c ∷ cs) s = let a = after_tally cs (next k vertex-room triangle-room s c) in let b = next_tally s c in omega arith
+  after_tally (c ∷ cs) s = let a = after_tally cs (next k vertex_room triangle_room s c) in let b = next_tally s c in omega arith
 
 -- where every vertex is its own parent, following back stays
 module _ (ps : List ℕ) (own : (v : ℕ) → back_step ps v ≡ v) where
@@ -151,7 +151,7 @@ sheet_own k bs a (suc n) zero v e = go (ltb a v) refl
 sheet_own k bs a (suc n) (suc i) v e = sheet_own k bs (a + 1) n i v (omega arith)
 
 -- an accepted base call begins it
-begun_held : {P D : Type 0} (k : Kind P D) (vertex-room triangle-room : ℕ) (bs : List ℕ) → base_fault k vertex-room triangle-room empty_mesh bs ≡ None → Held (sheet_mesh k bs) (sheet_mesh k bs) (base_numbers (sheet_mesh k bs))
+begun_held : {P D : Type 0} (k : Kind P D) (vertex_room triangle_room : ℕ) (bs : List ℕ) → base_fault k vertex_room triangle_room empty_mesh bs ≡ None → Held (sheet_mesh k bs) (sheet_mesh k bs) (base_numbers (sheet_mesh k bs))
 begun_held {P} {D} k vr tr bs e =
     let m = sheet_mesh k bs in
     let a = or_none (empty_fault (empty_mesh {P = P})) _ e in
@@ -177,10 +177,10 @@ nth_front f (suc n) (x ∷ xs) zero h = refl
 nth_front f (suc n) (x ∷ xs) (suc t) h = nth_front f n xs t (omega arith)
 
 -- what the invariant says at the end of a run
-run_held : {P D : Type 0} (k : Kind P D) → Lawful k → (vertex-room triangle-room : ℕ) → RoomInLimits vertex-room triangle-room → (bs : List ℕ) (cs : List Call) → base_fault k vertex-room triangle-room empty_mesh bs ≡ None → Held (sheet_mesh k bs) (after k vertex-room triangle-room (begun (sheet_mesh k bs)) cs).mesh (after k vertex-room triangle-room (begun (sheet_mesh k bs)) cs).numbers
+run_held : {P D : Type 0} (k : Kind P D) → Lawful k → (vertex_room triangle_room : ℕ) → RoomInLimits vertex_room triangle_room → (bs : List ℕ) (cs : List Call) → base_fault k vertex_room triangle_room empty_mesh bs ≡ None → Held (sheet_mesh k bs) (after k vertex_room triangle_room (begun (sheet_mesh k bs)) cs).mesh (after k vertex_room triangle_room (begun (sheet_mesh k bs)) cs).numbers
 run_held k law vr tr room bs cs e = after_held k law vr tr room (sheet_mesh k bs) cs (begun (sheet_mesh k bs)) (begun_held k vr tr bs e)
 
-run_kept : {P D : Type 0} (k : Kind P D) → Lawful k → (vertex-room triangle-room : ℕ) → RoomInLimits vertex-room triangle-room → (bs : List ℕ) (cs : List Call) → base_fault k vertex-room triangle-room empty_mesh bs ≡ None → Kept k vertex-room triangle-room (sheet_mesh k bs) cs (after k vertex-room triangle-room (begun (sheet_mesh k bs)) cs)
+run_kept : {P D : Type 0} (k : Kind P D) → Lawful k → (vertex_room triangle_room : ℕ) → RoomInLimits vertex_room triangle_room → (bs : List ℕ) (cs : List Call) → base_fault k vertex_room triangle_room empty_mesh bs ≡ None → Kept k vertex_room triangle_room (sheet_mesh k bs) cs (after k vertex_room triangle_room (begun (sheet_mesh k bs)) cs)
 run_kept {P} {D} k law vr tr room bs cs e =
     let base = sheet_mesh k bs in
     let s : State P = begun base in
@@ -200,7 +200,7 @@ run_kept {P} {D} k law vr tr room bs cs e =
           sym (nth_front (followed (parents (after k vr tr s cs).mesh)) (triangle_total base) (after k vr tr s cs).mesh.triangles t l) ∙ ap (λ (us : List Tri). slice_get us t) h.follows;
     }
 
-pub ended : {P D : Type 0} (k : Kind P D) → Lawful k → (vertex-room triangle-room : ℕ) (bs : List ℕ) (cs : List Call) (s : State P) → Run k vertex-room triangle-room bs cs s → Kept k vertex-room triangle-room (sheet_mesh k bs) cs s
+pub ended : {P D : Type 0} (k : Kind P D) → Lawful k → (vertex_room triangle_room : ℕ) (bs : List ℕ) (cs : List Call) (s : State P) → Run k vertex_room triangle_room bs cs s → Kept k vertex_room triangle_room (sheet_mesh k bs) cs s
 ended k law vr tr bs cs s r = subst (λ t. Kept k vr tr (sheet_mesh k bs) cs t) r.ends (run_kept k law vr tr r.room bs cs r.accepted)
 
 -- the same base mesh has one figure
@@ -223,7 +223,7 @@ two_jobs k l p q a b va ta vb tb sheet other xs ys f g same =
       same_corners = λ i h. x.base_triangles i h ∙ ap (λ (us : List Tri). slice_get us i) same.triangles ∙ sym (y.base_triangles i (omega arith));
     }
 
-run_report : {P D : Type 0} (k : Kind P D) → Lawful k → (vertex-room triangle-room : ℕ) → RoomInLimits vertex-room triangle-room → (bs : List ℕ) (cs : List Call) → base_fault k vertex-room triangle-room empty_mesh bs ≡ None → ReportTrue k vertex-room triangle-room bs cs (after k vertex-room triangle-room (begun (sheet_mesh k bs)) cs)
+run_report : {P D : Type 0} (k : Kind P D) → Lawful k → (vertex_room triangle_room : ℕ) → RoomInLimits vertex_room triangle_room → (bs : List ℕ) (cs : List Call) → base_fault k vertex_room triangle_room empty_mesh bs ≡ None → ReportTrue k vertex_room triangle_room bs cs (after k vertex_room triangle_room (begun (sheet_mesh k bs)) cs)
 run_report {P} {D} k law vr tr room bs cs e =
     let s : State P = begun (sheet_mesh k bs) in
     let m = (after k vr tr s cs).mesh in

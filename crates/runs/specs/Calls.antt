@@ -78,16 +78,16 @@ writing_answer k m room = cond (nat_le (mesh_size k m) room) (Ok (mesh_size k m)
 
 -- what a call on a store with room for so many vertices and triangles answers
 abbrev pub answer : {P D : Type 0} → Kind P D → ℕ → ℕ → State P → Call → Answer P
-answer k vertex-room triangle-room s (offer bs table) = split (split_answer k vertex-room triangle-room table s.mesh s.numbers bs)
-answer k vertex-room triangle-room s (ask q) = question_answer s.mesh q
-answer k vertex-room triangle-room s (write_sheet room) = written (writing_answer k s.mesh room)
+answer k vertex_room triangle_room s (offer bs table) = split (split_answer k vertex_room triangle_room table s.mesh s.numbers bs)
+answer k vertex_room triangle_room s (ask q) = question_answer s.mesh q
+answer k vertex_room triangle_room s (write_sheet room) = written (writing_answer k s.mesh room)
 
 -- what it leaves: only a split that is accepted changes anything
 abbrev pub next : {P D : Type 0} → Kind P D → ℕ → ℕ → State P → Call → State P
-next k vertex-room triangle-room s (offer bs table) =
-    state_of (split_mesh_after k vertex-room triangle-room table s.mesh s.numbers bs) (numbers_after k vertex-room triangle-room table s.mesh s.numbers bs)
-next k vertex-room triangle-room s (ask q) = s
-next k vertex-room triangle-room s (write_sheet room) = s
+next k vertex_room triangle_room s (offer bs table) =
+    state_of (split_mesh_after k vertex_room triangle_room table s.mesh s.numbers bs) (numbers_after k vertex_room triangle_room table s.mesh s.numbers bs)
+next k vertex_room triangle_room s (ask q) = s
+next k vertex_room triangle_room s (write_sheet room) = s
 
 -- the fault in a result
 abbrev pub fault_in : {X : Type 0} → Result X Fault → Option Fault

@@ -47,7 +47,7 @@ plain_numbers = record { base_vertices = 4; base_triangles = 4; records = 1; for
 
 -- what a split call is refused by, for a job whose base is the block, with room for so many vertices and triangles and a work table of 176 numbers
 abbrev pub refused_within : ℕ → ℕ → List ℕ → Option Told
-refused_within vertex-room triangle-room bs = option_map told (split_fault grid_kind vertex-room triangle-room 176 grid_block (base_numbers grid_block) bs)
+refused_within vertex_room triangle_room bs = option_map told (split_fault grid_kind vertex_room triangle_room 176 grid_block (base_numbers grid_block) bs)
 
 -- the same with room for 5 vertices and 6 triangles
 abbrev pub refused_by : List ℕ → Option Told

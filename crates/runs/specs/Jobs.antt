@@ -41,8 +41,8 @@ empty_fault m = cond (is_empty m) None (Some StoreNotEmpty)
 -- the checks of the base call on a store with this room and this mesh: the store is empty, the
 -- sheet is laid out as it should be, fits the store and holds places, and its mesh is closed
 abbrev pub base_fault : {P D : Type 0} → Kind P D → ℕ → ℕ → Mesh P → List ℕ → Option Fault
-base_fault k vertex-room triangle-room m bs =
-    or_else (empty_fault m) (or_else (sheet_fault_within k vertex-room triangle-room bs) (survey_fault (vertex_total (sheet_mesh k bs)) (sheet_mesh k bs).triangles))
+base_fault k vertex_room triangle_room m bs =
+    or_else (empty_fault m) (or_else (sheet_fault_within k vertex_room triangle_room bs) (survey_fault (vertex_total (sheet_mesh k bs)) (sheet_mesh k bs).triangles))
 
 -- the mesh after a base call, and the job's numbers or the fault
 abbrev pub mesh_unless : {P : Type 0} → Option Fault → Mesh P → Mesh P → Mesh P
@@ -50,11 +50,11 @@ mesh_unless (Some f) before after = before
 mesh_unless None before after = after
 
 abbrev pub base_mesh : {P D : Type 0} → Kind P D → ℕ → ℕ → Mesh P → List ℕ → Mesh P
-base_mesh k vertex-room triangle-room m bs = mesh_unless (base_fault k vertex-room triangle-room m bs) m (sheet_mesh k bs)
+base_mesh k vertex_room triangle_room m bs = mesh_unless (base_fault k vertex_room triangle_room m bs) m (sheet_mesh k bs)
 
 abbrev pub numbers_unless : Option Fault → Numbers → Result Numbers Fault
 numbers_unless (Some f) n = Err f
 numbers_unless None n = Ok n
 
 abbrev pub base_answer : {P D : Type 0} → Kind P D → ℕ → ℕ → Mesh P → List ℕ → Result Numbers Fault
-base_answer k vertex-room triangle-room m bs = numbers_unless (base_fault k vertex-room triangle-room m bs) (base_numbers (sheet_mesh k bs))
+base_answer k vertex_room triangle_room m bs = numbers_unless (base_fault k vertex_room triangle_room m bs) (base_numbers (sheet_mesh k bs))

@@ -33,7 +33,7 @@ mesh_made k m bs = split_mesh k m (record_marks bs (edge_total m)) (record_codes
 
 -- the work table has 16 numbers for each vertex and each triangle that there is room for
 abbrev pub table_fault : ℕ → ℕ → ℕ → Option Fault
-table_fault vertex-room triangle-room table = cond (nat_le (16 * (vertex-room + triangle-room)) table) None (Some ShortWorkTable)
+table_fault vertex_room triangle_room table = cond (nat_le (16 * (vertex_room + triangle_room)) table) None (Some ShortWorkTable)
 
 -- the survey of the store's mesh finds no fault
 abbrev pub closed_fault : {P : Type 0} → Mesh P → Option Fault
@@ -65,23 +65,23 @@ displacements_fault k m bs = place_fault k m (record_marks bs (edge_total m)) (r
 
 -- the checks of the record's bytes on the store's mesh, in their order
 abbrev pub record_fault : {P D : Type 0} → Kind P D → ℕ → ℕ → Mesh P → List ℕ → Option Fault
-record_fault k vertex-room triangle-room m bs =
+record_fault k vertex_room triangle_room m bs =
     or_else (head_fault k bs (edge_total m))
     (or_else (marks_fault m bs)
     (or_else (size_fault k bs (edge_total m))
-    (or_else (vertex_room_fault vertex-room m bs)
-    (or_else (triangle_room_fault triangle-room m bs)
+    (or_else (vertex_room_fault vertex_room m bs)
+    (or_else (triangle_room_fault triangle_room m bs)
     (or_else (code_bits_fault bs (edge_total m))
     (or_else (codes_fault m bs)
     (displacements_fault k m bs)))))))
 
 -- all checks of a split call with a work table of this length, in their order
 abbrev pub split_fault : {P D : Type 0} → Kind P D → ℕ → ℕ → ℕ → Mesh P → Numbers → List ℕ → Option Fault
-split_fault k vertex-room triangle-room table m n bs =
-    or_else (table_fault vertex-room triangle-room table)
+split_fault k vertex_room triangle_room table m n bs =
+    or_else (table_fault vertex_room triangle_room table)
     (or_else (closed_fault m)
     (or_else (job_fault m n)
-    (record_fault k vertex-room triangle-room m bs)))
+    (record_fault k vertex_room triangle_room m bs)))
 
 -- what an accepted split tells: the counts of the mesh as it is then, and the record's marked edges and trees
 pub record SplitTold : Type 0 where
@@ -99,12 +99,12 @@ told_unless (Some f) t = Err f
 told_unless None t = Ok t
 
 abbrev pub split_answer : {P D : Type 0} → Kind P D → ℕ → ℕ → ℕ → Mesh P → Numbers → List ℕ → Result SplitTold Fault
-split_answer k vertex-room triangle-room table m n bs =
-    told_unless (split_fault k vertex-room triangle-room table m n bs) (split_told (mesh_made k m bs) (edges_marked m bs) (trees_formed m bs))
+split_answer k vertex_room triangle_room table m n bs =
+    told_unless (split_fault k vertex_room triangle_room table m n bs) (split_told (mesh_made k m bs) (edges_marked m bs) (trees_formed m bs))
 
 -- the store's mesh after a split call
 abbrev pub split_mesh_after : {P D : Type 0} → Kind P D → ℕ → ℕ → ℕ → Mesh P → Numbers → List ℕ → Mesh P
-split_mesh_after k vertex-room triangle-room table m n bs = mesh_unless (split_fault k vertex-room triangle-room table m n bs) m (mesh_made k m bs)
+split_mesh_after k vertex_room triangle_room table m n bs = mesh_unless (split_fault k vertex_room triangle_room table m n bs) m (mesh_made k m bs)
 
 -- one more record, with f forest edges in t trees
 abbrev pub numbers_with : Numbers → ℕ → ℕ → Numbers
@@ -122,8 +122,8 @@ numbers_kept None before after = after
 
 -- the job's numbers after a split call
 abbrev pub numbers_after : {P D : Type 0} → Kind P D → ℕ → ℕ → ℕ → Mesh P → Numbers → List ℕ → Numbers
-numbers_after k vertex-room triangle-room table m n bs =
-    numbers_kept (split_fault k vertex-room triangle-room table m n bs) n (numbers_with n (edges_marked m bs) (trees_formed m bs))
+numbers_after k vertex_room triangle_room table m n bs =
+    numbers_kept (split_fault k vertex_room triangle_room table m n bs) n (numbers_with n (edges_marked m bs) (trees_formed m bs))
 
 -- the work table after a split call, whatever the call answers
 abbrev pub work_after : List ℕ → List ℕ

@@ -19,13 +19,13 @@ begun m = state_of m (base_numbers m)
 
 -- the state after all calls, one after the other
 abbrev pub after : {P D : Type 0} → Kind P D → ℕ → ℕ → State P → List Call → State P
-after k vertex-room triangle-room s [] = s
-after k vertex-room triangle-room s (c ∷ cs) = after k vertex-room triangle-room (next k vertex-room triangle-room s c) cs
+after k vertex_room triangle_room s [] = s
+after k vertex_room triangle_room s (c ∷ cs) = after k vertex_room triangle_room (next k vertex_room triangle_room s c) cs
 
 -- the answers of all calls
 abbrev pub answers : {P D : Type 0} → Kind P D → ℕ → ℕ → State P → List Call → List (Answer P)
-answers k vertex-room triangle-room s [] = []
-answers k vertex-room triangle-room s (c ∷ cs) = answer k vertex-room triangle-room s c ∷ answers k vertex-room triangle-room (next k vertex-room triangle-room s c) cs
+answers k vertex_room triangle_room s [] = []
+answers k vertex_room triangle_room s (c ∷ cs) = answer k vertex_room triangle_room s c ∷ answers k vertex_room triangle_room (next k vertex_room triangle_room s c) cs
 
 -- a count where there is no fault, else 0
 abbrev pub if_accepted : Option Fault → ℕ → ℕ
@@ -34,14 +34,14 @@ if_accepted None n = n
 
 -- what a call adds to a count over the accepted splits, where f counts on the mesh before the split and the record's bytes
 abbrev pub share : {P D : Type 0} → (Mesh P → List ℕ → ℕ) → Kind P D → ℕ → ℕ → State P → Call → ℕ
-share f k vertex-room triangle-room s (offer bs table) = if_accepted (split_fault k vertex-room triangle-room table s.mesh s.numbers bs) (f s.mesh bs)
-share f k vertex-room triangle-room s (ask q) = 0
-share f k vertex-room triangle-room s (write_sheet room) = 0
+share f k vertex_room triangle_room s (offer bs table) = if_accepted (split_fault k vertex_room triangle_room table s.mesh s.numbers bs) (f s.mesh bs)
+share f k vertex_room triangle_room s (ask q) = 0
+share f k vertex_room triangle_room s (write_sheet room) = 0
 
 -- the sum over the accepted splits of a run
 abbrev pub summed : {P D : Type 0} → (Mesh P → List ℕ → ℕ) → Kind P D → ℕ → ℕ → State P → List Call → ℕ
-summed f k vertex-room triangle-room s [] = 0
-summed f k vertex-room triangle-room s (c ∷ cs) = share f k vertex-room triangle-room s c + summed f k vertex-room triangle-room (next k vertex-room triangle-room s c) cs
+summed f k vertex_room triangle_room s [] = 0
+summed f k vertex_room triangle_room s (c ∷ cs) = share f k vertex_room triangle_room s c + summed f k vertex_room triangle_room (next k vertex_room triangle_room s c) cs
 
 -- the marks set in the accepted records
 abbrev pub edges_marked_over : {P D : Type 0} → Kind P D → ℕ → ℕ → State P → List Call → ℕ
@@ -52,22 +52,22 @@ abbrev pub trees_formed_over : {P D : Type 0} → Kind P D → ℕ → ℕ → S
 trees_formed_over k = summed trees_formed k
 
 -- On a store with room for so many vertices and triangles the sheet is accepted as the base, and the calls then lead to the state s.
-pub record Run {P D : Type 0} (k : Kind P D) (vertex-room triangle-room : ℕ) (sheet : List ℕ) (calls : List Call) (s : State P) : Type 0 where
-  pub room : RoomInLimits vertex-room triangle-room
-  pub accepted : base_fault k vertex-room triangle-room empty_mesh sheet ≡ None
-  pub ends : after k vertex-room triangle-room (begun (sheet_mesh k sheet)) calls ≡ s
+pub record Run {P D : Type 0} (k : Kind P D) (vertex_room triangle_room : ℕ) (sheet : List ℕ) (calls : List Call) (s : State P) : Type 0 where
+  pub room : RoomInLimits vertex_room triangle_room
+  pub accepted : base_fault k vertex_room triangle_room empty_mesh sheet ≡ None
+  pub ends : after k vertex_room triangle_room (begun (sheet_mesh k sheet)) calls ≡ s
 
 -- an accepted base call on an empty store begins a run
 abbrev pub RunsBegin : {P D : Type 0} → Kind P D → Type 0
 RunsBegin {P} {D} k =
-    (vertex-room triangle-room : ℕ) (m : Mesh P) (sheet : List ℕ) → RoomInLimits vertex-room triangle-room → base_fault k vertex-room triangle-room m sheet ≡ None
-    → Run k vertex-room triangle-room sheet [] (state_of (base_mesh k vertex-room triangle-room m sheet) (base_numbers (sheet_mesh k sheet)))
+    (vertex_room triangle_room : ℕ) (m : Mesh P) (sheet : List ℕ) → RoomInLimits vertex_room triangle_room → base_fault k vertex_room triangle_room m sheet ≡ None
+    → Run k vertex_room triangle_room sheet [] (state_of (base_mesh k vertex_room triangle_room m sheet) (base_numbers (sheet_mesh k sheet)))
 
 -- a call that leads from s to t goes on every run that ends in s
 abbrev pub GoesOn : {P D : Type 0} → Kind P D → ℕ → ℕ → State P → Call → State P → Type 0
-GoesOn k vertex-room triangle-room s c t =
-    (sheet : List ℕ) (calls : List Call) → Run k vertex-room triangle-room sheet calls s → Run k vertex-room triangle-room sheet (calls ++ (c ∷ [])) t
+GoesOn k vertex_room triangle_room s c t =
+    (sheet : List ℕ) (calls : List Call) → Run k vertex_room triangle_room sheet calls s → Run k vertex_room triangle_room sheet (calls ++ (c ∷ [])) t
 
 -- every call goes on every run
 abbrev pub RunsGoOn : {P D : Type 0} → Kind P D → Type 0
-RunsGoOn {P} {D} k = (vertex-room triangle-room : ℕ) (s : State P) (c : Call) → GoesOn k vertex-room triangle-room s c (next k vertex-room triangle-room s c)
+RunsGoOn {P} {D} k = (vertex_room triangle_room : ℕ) (s : State P) (c : Call) → GoesOn k vertex_room triangle_room s c (next k vertex_room triangle_room s c)

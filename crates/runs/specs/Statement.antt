@@ -17,18 +17,18 @@ abbrev pub Trusts : {P : Type 0} → Answer P → Type 0
 Trusts a = (refusal a ≢ Some StoreNotClosed) × (refusal a ≢ Some StoreNotOfJob)
 
 -- what holds at the end of a run of calls from a base mesh
-pub record Kept {P D : Type 0} (k : Kind P D) (vertex-room triangle-room : ℕ) (base : Mesh P) (calls : List Call) (s : State P) : Type 0 where
+pub record Kept {P D : Type 0} (k : Kind P D) (vertex_room triangle_room : ℕ) (base : Mesh P) (calls : List Call) (s : State P) : Type 0 where
   -- the mesh is closed, and no call found that it was not, or that it was not the job's
   pub closed : Closed (vertex_total s.mesh) s.mesh.triangles
-  pub trusted : AllByRecursion Trusts (answers k vertex-room triangle-room (begun base) calls)
+  pub trusted : AllByRecursion Trusts (answers k vertex_room triangle_room (begun base) calls)
   -- vertices less edges plus triangles is as in the base
   pub figure : euler s.mesh ≡ euler base
   -- the triangles are those of the base and two for each forest edge less two for each tree, over the run's accepted splits
-  pub triangles : triangle_total s.mesh + 2 * trees_formed_over k vertex-room triangle-room (begun base) calls
-      ≡ triangle_total base + 2 * edges_marked_over k vertex-room triangle-room (begun base) calls
+  pub triangles : triangle_total s.mesh + 2 * trees_formed_over k vertex_room triangle_room (begun base) calls
+      ≡ triangle_total base + 2 * edges_marked_over k vertex_room triangle_room (begun base) calls
   -- the job's tallies are these two counts
-  pub forest_edges : s.numbers.forest_edges ≡ edges_marked_over k vertex-room triangle-room (begun base) calls
-  pub trees : s.numbers.trees ≡ trees_formed_over k vertex-room triangle-room (begun base) calls
+  pub forest_edges : s.numbers.forest_edges ≡ edges_marked_over k vertex_room triangle_room (begun base) calls
+  pub trees : s.numbers.trees ≡ trees_formed_over k vertex_room triangle_room (begun base) calls
   -- each base triangle is still there under its number, and its corners follow back to the corners that it had in the base, in order
   pub base_triangles : (t : ℕ) → t < triangle_total base → option_map (followed (parents s.mesh)) (slice_get s.mesh.triangles t) ≡ slice_get base.triangles t
 
