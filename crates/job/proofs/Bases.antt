@@ -1,18 +1,22 @@
 -- A base call, path by path.
-use Rattle.std.proofs.Common.{◌≡◌, ℕ, ◌-◌, ◌*◌, ◌%◌, ◌<◌, ◌≤◌, Bool, true, false, cond, not, eqb, leb, List, [], ◌∷◌, length, Some, None, Ok, Err, Option, sym, refl, ap, ◌∙◌, subst, arith, eqb-true, leb-true}
+use Rattle.std.proofs.Common.{◌≡◌, ℕ, ◌*◌, ◌%◌, ◌<◌, ◌≤◌, Bool, true, false, cond, not, eqb, leb, List, [], length, Some, None, Ok, Err, Option, sym, refl, ap, ◌∙◌, subst, arith, eqb-true, leb-true}
 use borrow.Author.Tests.{not-false}
 use Rattle.std.specs.List.{slice_get}
+use Rattle.std.proofs.lemmas.List.{nil_from_length}
+use Rattle.std.proofs.lemmas.Bool.{and_parts}
+use Rattle.std.proofs.lemmas.Option.{slice_get_within}
 use Rattle.fault.specs.declared.fault.Fault.{Fault}
 use Rattle.fault.specs.declared.fault.Fault.TheVariants.{StoreNotEmpty, BadCorners}
 use Rattle.fault.specs.Faults.{or_else}
-use Rattle.fault.proofs.Orders.{or_none, mapped_none}
+use Rattle.fault.proofs.Orders.{or_none, mapped_none, test_passed}
 use Rattle.place.specs.Kinds.{Kind}
 use Rattle.mesh.specs.Triangles.{Tri}
 use Rattle.mesh.specs.Meshes.{Mesh, Vertex, mesh_of, vertex_total, triangle_total}
 use Rattle.mesh.specs.Growth.{all_below, different}
 use Rattle.mesh.specs.Limits.{counts_fault}
-use Rattle.mesh.proofs.Tests.{and_true, some_inj, nth_below}
-use Rattle.mesh.proofs.Indexed.{length_counted, counted_there}
+use Rattle.mesh.proofs.Tests.{some_inj}
+use Rattle.std.proofs.lemmas.List.FromFn.{length-map-range_with_len}
+use Rattle.mesh.proofs.Indexed.{counted_there}
 use Rattle.survey.specs.declared.counts.Counts.{Counts}
 use Rattle.survey.specs.Checks.{good_corners, bad_one, first_bad}
 use Rattle.survey.specs.Survey.{survey_fault, edge_count, counted, counted_unless, surveyed}
@@ -20,10 +24,9 @@ use Rattle.survey.proofs.Exact.{surveyed_small, edges_half_told}
 use Rattle.mesh.proofs.Firsts.{all_none}
 use Rattle.sheet.specs.Layout.{vertices_of, triangles_of, unless, layout_fault, capacity_fault}
 use Rattle.sheet.specs.Content.{triangle_in, vertex_in, vertices_in, triangles_in, sheet_mesh, sheet_fault_within}
-use Rattle.sheet.specs.Bounds.{unless_none}
 use Rattle.sheet.specs.Opening.{opened}
 use Rattle.sheet.proofs.Opened.{opened_ok, opened_err}
-use Rattle.sheet.proofs.Exact.{vertices_are, triangles_are}
+use Rattle.sheet.proofs.Fields.{vertices_right, triangles_right}
 use Rattle.runs.specs.Jobs.{base_numbers, is_empty, base_fault, mesh_unless, base_mesh, numbers_unless, base_answer}
 use Rattle.job.specs.Copies.{Copyable, first_vertices}
 use Rattle.job.specs.Telling.{numbers_of_counts}
@@ -34,29 +37,18 @@ bad_none V ts e i x h = all_none (λ i o. bad_one V o) ts e i x h
 
 -- three edges for two triangles: the triangles are even in number
 even : (E T : ℕ) → 2 * E ≡ 3 * T → T % 2 ≡ 0
-even E T e = let h : T ≡ 2 * (E - T) = omega arith in ap (λ (x : ℕ). x % 2) h ∙ twice (E - T)
-  where
-    twice : (q : ℕ) → 2 * q % 2 ≡ 0
-    twice q = omega arith
-
--- nothing is there
-empty_list : {X : Type 0} (xs : List X) → eqb (length xs) 0 ≡ true → xs ≡ []
-empty_list [] e = refl
-empty_list (x ∷ xs) e = let h = eqb-true (length (x ∷ xs)) 0 e in absurd (omega arith)
+even E T e = omega arith
 
 pub empty_start : {P : Type 0} (m n : Mesh P) → is_empty m ≡ true → m ≡ first_vertices 0 n
 empty_start m n e =
-    let p = and_true (eqb (vertex_total m) 0) (eqb (triangle_total m) 0) e in
-    ap (λ ts. mesh_of ts m.vertices) (empty_list m.triangles p.1) ∙ ap (λ vs. mesh_of [] vs) (empty_list m.vertices p.0)
+    let p = and_parts (eqb (vertex_total m) 0) (eqb (triangle_total m) 0) e in
+    ap (λ ts. mesh_of ts m.vertices) (nil_from_length m.triangles (eqb-true _ 0 p.1)) ∙ ap (λ vs. mesh_of [] vs) (nil_from_length m.vertices (eqb-true _ 0 p.0))
 
 -- the capacities that a store tells are its room
 pub within_room : {P D : Type 0} (k : Kind P D) (bs xs : List ℕ) (v vr t tr : ℕ) → v ≡ vr → t ≡ tr → Ok xs ≡ opened (sheet_fault_within k v t bs) bs → Ok xs ≡ opened (sheet_fault_within k vr tr bs) bs
 within_room k bs xs v vr t tr e i h = h ∙ (ap (λ (n : ℕ). opened (sheet_fault_within k n t bs) bs) e ∙ ap (λ (n : ℕ). opened (sheet_fault_within k vr n bs) bs) i)
 
 module _ {P D : Type 0} (k : Kind P D) (vr tr : ℕ) (m : Mesh P) (bs : List ℕ) where
-  pub refused_store : is_empty m ≡ false → base_fault k vr tr m bs ≡ Some StoreNotEmpty
-  refused_store e = ap (λ (b : Bool). or_else (cond b None (Some StoreNotEmpty)) (or_else (sheet_fault_within k vr tr bs) (survey_fault (vertex_total (sheet_mesh k bs)) (sheet_mesh k bs).triangles))) e
-
   past_store : is_empty m ≡ true → base_fault k vr tr m bs ≡ or_else (sheet_fault_within k vr tr bs) (survey_fault (vertex_total (sheet_mesh k bs)) (sheet_mesh k bs).triangles)
   past_store e = ap (λ (b : Bool). or_else (cond b None (Some StoreNotEmpty)) (or_else (sheet_fault_within k vr tr bs) (survey_fault (vertex_total (sheet_mesh k bs)) (sheet_mesh k bs).triangles))) e
 
@@ -75,8 +67,8 @@ module _ {P D : Type 0} (k : Kind P D) (vr tr : ℕ) (m : Mesh P) (bs : List ℕ
       survey_err V ts f e = go (survey_fault V ts) e
         where
           go : (o : Option Fault) → Err f ≡ counted_unless o V ts → o ≡ Some f
-          go None e = let z : ◌≡◌ {A = ℕ} 0 1 = cc in absurd (omega arith)
-          go (Some g) e = let d : g ≡ f = cc in ap (λ (x : Fault). Some x) d
+          go None e = absurd (cc)
+          go (Some g) e = cc
 
   -- a refusal's answer, and the mesh that stays
   pub refused_answer : (f : Fault) → base_fault k vr tr m bs ≡ Some f → Err f ≡ base_answer k vr tr m bs
@@ -90,7 +82,7 @@ module _ {P D : Type 0} (k : Kind P D) (vr tr : ℕ) (m : Mesh P) (bs : List ℕ
     where
       go : (o : Option Fault) → survey_fault V ts ≡ o → Ok c ≡ counted_unless o V ts → (survey_fault V ts ≡ None) × (c ≡ counted V (edge_count ts) (length ts))
       go None i e = (i, cc)
-      go (Some f) i e = let z : ◌≡◌ {A = ℕ} 0 1 = cc in absurd (omega arith)
+      go (Some f) i e = absurd (cc)
 
   -- what is known where the survey of an opened sheet tells counts
   pub record Accepted (xs : List ℕ) (c : Counts) : Type 0 where
@@ -133,7 +125,7 @@ module _ {P D : Type 0} (k : Kind P D) (vr tr : ℕ) (m : Mesh P) (bs : List ℕ
       room : (leb (vertices_of bs) vr ≡ true) × (leb (triangles_of bs) tr ≡ true)
       room =
           let p = (or_none (capacity_fault vr tr bs) _ (or_none (layout_fault k bs) _ a.sheet_fine).1).0 in
-          let q = or_none (unless (leb (vertices_of bs) vr) _) _ p in (unless_none _ _ q.0, unless_none _ _ q.1)
+          let q = or_none (unless (leb (vertices_of bs) vr) _) _ p in (test_passed _ _ q.0, test_passed _ _ q.1)
 
       corners : first_bad (vertex_total (sheet_mesh k bs)) (sheet_mesh k bs).triangles ≡ None
       corners =
@@ -142,8 +134,8 @@ module _ {P D : Type 0} (k : Kind P D) (vr tr : ℕ) (m : Mesh P) (bs : List ℕ
 
       there : Copyable vr tr (sheet_mesh k bs)
       there =
-          let v = length_counted (vertex_in k bs) (vertices_in k bs) ∙ vertices_are k bs layout in
-          let t = length_counted (triangle_in k.width bs) (triangles_in k bs) ∙ triangles_are k bs layout in
+          let v = length-map-range_with_len (vertex_in k bs) 0 (vertices_in k bs) ∙ sym (vertices_right k bs (vertices_of bs) layout refl) in
+          let t = length-map-range_with_len (triangle_in k.width bs) 0 (triangles_in k bs) ∙ sym (triangles_right k bs (triangles_of bs) layout refl) in
           let p = leb-true (vertices_of bs) vr room.0 in
           let q = leb-true (triangles_of bs) tr room.1 in
           record {
@@ -156,9 +148,9 @@ module _ {P D : Type 0} (k : Kind P D) (vr tr : ℕ) (m : Mesh P) (bs : List ℕ
         where
           own_parent : (w : ℕ) (x : Vertex P) → slice_get (sheet_mesh k bs).vertices w ≡ Some x → x.parent ≡ w
           own_parent w x e =
-              let l = nth_below (sheet_mesh k bs).vertices w x e in
-              let n = length_counted (vertex_in k bs) (vertices_in k bs) in
+              let l = slice_get_within (sheet_mesh k bs).vertices w x e in
+              let n = length-map-range_with_len (vertex_in k bs) 0 (vertices_in k bs) in
               let h : w < vertices_in k bs = omega arith in sym (ap (λ (y : Vertex P). y.parent) (some_inj (sym (counted_there (vertex_in k bs) (vertices_in k bs) w h) ∙ e)))
 
           good : (n : ℕ) (x : Tri) → slice_get (sheet_mesh k bs).triangles n ≡ Some x → (all_below (vertex_total (sheet_mesh k bs)) x ≡ true) × (different x ≡ true)
-          good n x e = and_true _ _ (not-false _ (bad_none (vertex_total (sheet_mesh k bs)) (sheet_mesh k bs).triangles corners n x e))
+          good n x e = and_parts _ _ (not-false _ (bad_none (vertex_total (sheet_mesh k bs)) (sheet_mesh k bs).triangles corners n x e))

@@ -4,16 +4,16 @@ use Rattle.fault.specs.declared.fault.Fault.{Fault}
 use Rattle.runs.specs.Jobs.{Numbers}
 use Rattle.runs.specs.Calls.{report}
 use Rattle.job.specs.declared.running.Running.{Running}
-use Rattle.job.specs.declared.opened.Opened.{Opened}
+use Rattle.job.specs.declared.opened.Refused.{Refused}
 use Rattle.job.specs.declared.closed.Report.{Report}
 
 abbrev pub job_of : Running → Numbers
 job_of r = record { base_vertices = r.base_vertices; base_triangles = r.base_triangles; records = r.records; forest_edges = r.forest_edges; trees = r.trees }
 
 -- the numbers of the job that a base call gives, or the fault
-abbrev pub base_told : Result Running (Opened × Fault) → Result Numbers Fault
+abbrev pub base_told : Result Running Refused → Result Numbers Fault
 base_told (Ok r) = Ok (job_of r)
-base_told (Err p) = Err p.1
+base_told (Err r) = Err r.fault
 
 -- the report of a job with these numbers
 abbrev pub report_of : Numbers → Report

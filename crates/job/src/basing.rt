@@ -4,7 +4,7 @@ ghost use Rattle.mesh.specs.Growth.{SameRoom};
 ghost use Rattle.runs.specs.Jobs.{is_empty, base_mesh, base_answer};
 ghost use Rattle.job.specs.Telling.{numbers_told};
 
-use crate::copying::copy_surface;
+use crate::copying::{copy_triangles, copy_vertices};
 use fault::Fault;
 use mesh::{GrowingStore, ReadingSurface};
 use place::Place;
@@ -30,14 +30,9 @@ pub(crate) fn take_base<P: Place, S: GrowingStore<Kind = P>>(
     if !is_empty(store) {
         return Err(Fault::StoreNotEmpty);
     }
-    match Sheet::<P>::open_within(bytes, store.vertex_capacity(), store.triangle_capacity()) {
-        Ok(sheet) => match survey(&sheet) {
-            Ok(counts) => {
-                copy_surface(&sheet, store);
-                Ok(counts)
-            }
-            Err(fault) => Err(fault),
-        },
-        Err(fault) => Err(fault),
-    }
+    let sheet = Sheet::<P>::open_within(bytes, store.room())?;
+    let counts = survey(&sheet)?;
+    copy_vertices(&sheet, store);
+    copy_triangles(&sheet, store);
+    Ok(counts)
 }

@@ -11,17 +11,15 @@ use mesh::ReadingSurface;
 fn back_step<S: ReadingSurface>(store: &S, v: u32) -> u32
     ensures { result ≡ back_step (parents (S.mesh store.now)) v }
 {
-    match store.parent(v) {
-        Some(parent) => parent.min(v),
-        None => v,
-    }
+    store.parent(v).map_or(v, |parent| parent.min(v))
 }
 
+// A loop, since each step goes on from the vertex that the last one came to.
 fn back_from<S: ReadingSurface>(store: &S, v: u32) -> u32
     ensures { result ≡ led (parents (S.mesh store.now)) v }
 {
     let mut at = v;
-    for i in 0..v {
+    for _ in 0..v {
         let next = back_step(store, at);
         if next == at {
             return at;
@@ -35,9 +33,8 @@ fn back_from<S: ReadingSurface>(store: &S, v: u32) -> u32
 pub(crate) fn follow_back<S: ReadingSurface>(store: &S, v: u32) -> Option<u32>
     ensures { result ≡ ancestor (S.mesh store.now) v }
 {
-    if v < store.vertex_count() {
-        Some(back_from(store, v))
-    } else {
-        None
+    if v >= store.vertex_count() {
+        return None;
     }
+    Some(back_from(store, v))
 }

@@ -9,5 +9,5 @@ mod opened;
 mod running;
 
 pub use closed::{Closed, Report};
-pub use opened::{Opened, open};
+pub use opened::{Opened, Refused, open};
 pub use running::Running;

@@ -15,6 +15,21 @@ pub struct Opened {
     private: (),
 }
 
+// The job whose base was refused, still opened, and why.
+#[derive(Drop)]
+pub struct Refused {
+    pub job: Opened,
+    pub fault: Fault,
+}
+
+impl From<Refused> for Fault {
+    ghost from_gives = { λ refused fault. fault ≡ refused.fault };
+
+    fn from(refused: Refused) -> Fault {
+        refused.fault
+    }
+}
+
 // A new job. Give it a base before anything else.
 pub fn open() -> Opened {
     Opened { private: () }
@@ -22,18 +37,17 @@ pub fn open() -> Opened {
 
 impl Opened {
     // Fills the empty store with the sheet's mesh and gives a running job, or hands the opened job back with the fault.
+    // That the store's room stays is a fact of the store before and after, which no type keeps.
     pub fn base<P: Place, S: GrowingStore<Kind = P>>(
         self,
         store: &mut S,
         sheet: &[u8],
-    ) -> Result<Running, (Opened, Fault)>
+    ) -> Result<Running, Refused>
         ensures answer { base_told result ≡ base_answer P.Place.kind (S.GrowingStore.vertex_room store.old) (S.GrowingStore.triangle_room store.old) (S.ReadingSurface.mesh store.old) sheet.now }
         ensures mesh { S.ReadingSurface.mesh store.new ≡ base_mesh P.Place.kind (S.GrowingStore.vertex_room store.old) (S.GrowingStore.triangle_room store.old) (S.ReadingSurface.mesh store.old) sheet.now }
         ensures room { SameRoom S.GrowingStore.vertex_room S.GrowingStore.triangle_room store.old store.new }
     {
-        match take_base(store, sheet) {
-            Ok(counts) => Ok(Running::start(counts.vertices, counts.triangles)),
-            Err(fault) => Err((self, fault)),
-        }
+        let counts = take_base(store, sheet).map_err(|fault| Refused { job: self, fault })?;
+        Ok(Running::start(counts.vertices, counts.triangles))
     }
 }

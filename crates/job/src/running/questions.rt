@@ -1,4 +1,5 @@
-// What a running job is asked of its store. Questions change nothing.
+// What a running job is asked of its store. Questions change nothing. The store is handed to each call: a job holds plain
+// numbers only, and its caller keeps the store.
 ghost use Rattle.std.specs.Prelude.{◌≡◌};
 ghost use Rattle.std.specs.Option.{option_map};
 ghost use Rattle.std.specs.List.{slice_get};

@@ -3,7 +3,7 @@ use Rattle.mesh.specs.Follow.{back_steps}
 use Rattle.mesh.specs.Meshes.{parents}
 use Rattle.job.proofs.following.back_from.Given as goal
 
-abbrev pub invariant-loop-i : goal.invariant-loop-i
-invariant-loop-i g l =
+abbrev pub invariant-loop : goal.invariant-loop
+invariant-loop g l =
     let ps = parents (g.S.ReadingSurface.mesh l.store) in
-    back_steps (l.v - l.i) ps l.at ≡ back_steps l.v ps l.v
+    back_steps (l.v - l.counter) ps l.at ≡ back_steps l.v ps l.v
