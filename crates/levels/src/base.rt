@@ -22,10 +22,8 @@ fn report_base(bytes: &[u8]) -> Result<Report, Fault>
     let mut triangles = [ChainTriangle::UNUSED; TRIANGLE_CAPACITY];
     let mut vertices = [ChainVertex::UNUSED; VERTEX_CAPACITY];
     let mut store = ChainStore::<Grid>::new(&mut triangles, &mut vertices);
-    match open().base(&mut store, bytes) {
-        Ok(job) => Ok(job.close().report()),
-        Err(back) => Err(back.1),
-    }
+    let job = open().base(&mut store, bytes)?;
+    Ok(job.close().report())
 }
 
 // The base's report, or why it is refused; a sheet that is cut short or too long for the buffer has a wrong length.

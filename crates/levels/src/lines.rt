@@ -28,18 +28,17 @@ pub fn print_report(rt: &HostRuntime, base: Result<Report, Fault>) -> io::Result
     }
 }
 
-fn print_base(rt: &HostRuntime, report: Report) -> io::Result<()> {
-    let vertices = report.vertices;
-    let edges = report.edges;
-    let triangles = report.triangles;
-    println!(rt; "BASE {vertices} {edges} {triangles}")
+fn print_base(rt: &HostRuntime, base: Report) -> io::Result<()> {
+    println!(rt; "BASE {} {} {}", base.vertices, base.edges, base.triangles)
 }
 
 fn print_refusal(rt: &HostRuntime, item: u32, fault: Fault) -> io::Result<()> {
-    let number = fault.number();
-    let layer = fault.layer();
-    let spot = fault.spot();
-    println!(rt; "REFUSED {item} {number} {layer} {spot}")
+    let layer = u8::from(fault.layer());
+    println!(rt;
+        "REFUSED {item} {} {layer} {}",
+        fault.number(),
+        fault.spot()
+    )
 }
 
 // The accepted records, and their forest edges and trees.

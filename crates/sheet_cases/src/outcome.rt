@@ -1,4 +1,4 @@
-// What a survey answered, as one piece of text.
+// What a survey answered, as one piece of text. By hand, since the program's table has a format of its own.
 use fault::Fault;
 use std::fmt;
 use survey::Counts;
@@ -9,18 +9,14 @@ pub struct Outcome(pub Result<Counts, Fault>);
 impl fmt::Display for Outcome {
     fn fmt<W: fmt::Write>(&self, f: &mut fmt::Formatter<W>) -> fmt::Result {
         match self.0 {
-            Ok(counts) => {
-                let vertices = counts.vertices;
-                let edges = counts.edges;
-                let triangles = counts.triangles;
-                let euler = counts.euler;
-                write!(f, "{vertices} {edges} {triangles} {euler}")
-            }
+            Ok(counts) => write!(
+                f,
+                "{} {} {} {}",
+                counts.vertices, counts.edges, counts.triangles, counts.euler
+            ),
             Err(fault) => {
-                let number = fault.number();
-                let layer = fault.layer();
-                let spot = fault.spot();
-                write!(f, "refused {number} {layer} {spot}")
+                let layer = u8::from(fault.layer());
+                write!(f, "refused {} {layer} {}", fault.number(), fault.spot())
             }
         }
     }
