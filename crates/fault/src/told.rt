@@ -87,7 +87,8 @@ impl Fault {
         }
     }
 
-    // Where the fault lies: an index, an offset, a vertex, an edge, a triangle or a tree; 0 where nothing is named.
+    // Where the fault lies: an index, an offset, a vertex, an edge, a triangle or a tree; 0 where nothing is named, since
+    // whoever tells a refusal tells a number here.
     pub fn spot(&self) -> u32
         ensures { result ≡ (told self.now).spot }
     {

@@ -1,5 +1,5 @@
 -- A base call, path by path.
-use Rattle.std.proofs.Common.{◌≡◌, ℕ, ◌*◌, ◌%◌, ◌<◌, ◌≤◌, Bool, true, false, cond, not, eqb, leb, List, [], length, Some, None, Ok, Err, Option, sym, refl, ap, ◌∙◌, subst, arith, eqb-true, leb-true}
+use Rattle.std.proofs.Common.{◌≡◌, ℕ, ◌*◌, ◌%◌, ◌<◌, Bool, true, false, cond, not, eqb, leb, List, [], length, Some, None, Ok, Err, Option, sym, refl, ap, ◌∙◌, subst, arith, eqb-true, leb-true}
 use borrow.Author.Tests.{not-false}
 use Rattle.std.specs.List.{slice_get}
 use Rattle.std.proofs.lemmas.List.{nil_from_length}
@@ -20,16 +20,15 @@ use Rattle.mesh.proofs.Indexed.{counted_there}
 use Rattle.survey.specs.declared.counts.Counts.{Counts}
 use Rattle.survey.specs.Checks.{good_corners, bad_one, first_bad}
 use Rattle.survey.specs.Survey.{survey_fault, edge_count, counted, counted_unless, surveyed}
-use Rattle.survey.proofs.Exact.{surveyed_small, edges_half_told}
+use Rattle.survey.proofs.Exact.{edges_half_told}
 use Rattle.mesh.proofs.Firsts.{all_none}
 use Rattle.sheet.specs.Layout.{vertices_of, triangles_of, unless, layout_fault, capacity_fault}
 use Rattle.sheet.specs.Content.{triangle_in, vertex_in, vertices_in, triangles_in, sheet_mesh, sheet_fault_within}
 use Rattle.sheet.specs.Opening.{opened}
 use Rattle.sheet.proofs.Opened.{opened_ok, opened_err}
 use Rattle.sheet.proofs.Fields.{vertices_right, triangles_right}
-use Rattle.runs.specs.Jobs.{base_numbers, is_empty, base_fault, mesh_unless, base_mesh, numbers_unless, base_answer}
+use Rattle.runs.specs.Jobs.{base_numbers, fresh_numbers, is_empty, base_fault, mesh_unless, base_mesh, numbers_unless, base_answer}
 use Rattle.job.specs.Copies.{Copyable, first_vertices}
-use Rattle.job.specs.Telling.{numbers_of_counts}
 
 bad_none : (V : ℕ) (ts : List Tri) → first_bad V ts ≡ None → (i : ℕ) (x : Tri) → slice_get ts i ≡ Some x → not (good_corners V x) ≡ false
 unfolding first_bad
@@ -100,20 +99,17 @@ module _ {P D : Type 0} (k : Kind P D) (vr tr : ℕ) (m : Mesh P) (bs : List ℕ
   accepted_none : (xs : List ℕ) (c : Counts) → is_empty m ≡ true → Accepted xs c → base_fault k vr tr m bs ≡ None
   accepted_none xs c e a = past_store e ∙ (ap (λ (o : Option Fault). or_else o (survey_fault (vertex_total (sheet_mesh k bs)) (sheet_mesh k bs).triangles)) a.sheet_fine ∙ a.shape_fine)
 
-  pub accepted_answer : (xs : List ℕ) (c : Counts) → is_empty m ≡ true → Accepted xs c → Ok (numbers_of_counts c) ≡ base_answer k vr tr m bs
-  accepted_answer xs c e a = ap (λ (d : Counts). Ok (numbers_of_counts d)) a.counts ∙ sym (ap (λ (o : Option Fault). numbers_unless o (base_numbers (sheet_mesh k bs))) (accepted_none xs c e a))
+  pub accepted_answer : (xs : List ℕ) (c : Counts) (v t : ℕ) → is_empty m ≡ true → Accepted xs c → v ≡ vertex_total (sheet_mesh k xs) → t ≡ triangle_total (sheet_mesh k xs) → Ok (fresh_numbers v t) ≡ base_answer k vr tr m bs
+  accepted_answer xs c v t e a p q = (λ i. Ok (fresh_numbers (p i) (q i))) ∙ (ap (λ (ys : List ℕ). Ok (base_numbers (sheet_mesh k ys))) a.same ∙ sym (ap (λ (o : Option Fault). numbers_unless o (base_numbers (sheet_mesh k bs))) (accepted_none xs c e a)))
 
   pub accepted_mesh : (xs : List ℕ) (c : Counts) → is_empty m ≡ true → Accepted xs c → sheet_mesh k xs ≡ base_mesh k vr tr m bs
   accepted_mesh xs c e a = ap (sheet_mesh k) a.same ∙ sym (ap (λ (o : Option Fault). mesh_unless o m (sheet_mesh k bs)) (accepted_none xs c e a))
 
-  pub accepted_small : (xs : List ℕ) (c : Counts) → Accepted xs c → (c.vertices ≤ 16384) × (c.triangles ≤ 32768) × (c.triangles % 2 ≡ 0)
-  accepted_small xs c a =
-      let V = vertex_total (sheet_mesh k bs) in
+  pub accepted_even : (xs : List ℕ) (c : Counts) (t : ℕ) → Accepted xs c → t ≡ triangle_total (sheet_mesh k xs) → t % 2 ≡ 0
+  accepted_even xs c t a e =
       let ts = (sheet_mesh k bs).triangles in
-      let s = surveyed_small V ts c (ap (λ (d : Counts). Ok d) a.counts ∙ sym (ap (λ (o : Option Fault). counted_unless o V ts) a.shape_fine)) in
-      let h = (edges_half_told V ts a.shape_fine).0 in
-      let n : c.triangles ≡ length ts = ap (λ (d : Counts). d.triangles) a.counts in
-      (s.vertices, s.triangles, ap (λ (x : ℕ). x % 2) n ∙ even (edge_count ts) (length ts) h)
+      let n : t ≡ length ts = e ∙ ap (λ (ys : List ℕ). triangle_total (sheet_mesh k ys)) a.same in
+      ap (λ (x : ℕ). x % 2) n ∙ even (edge_count ts) (length ts) (edges_half_told (vertex_total (sheet_mesh k bs)) ts a.shape_fine).0
 
   -- the sheet's mesh can be taken over
   pub accepted_copyable : (xs : List ℕ) (c : Counts) → Accepted xs c → Copyable vr tr (sheet_mesh k xs)

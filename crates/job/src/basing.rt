@@ -1,15 +1,15 @@
 // A base is taken over into a store.
-ghost use Rattle.std.specs.Prelude.{◌≡◌, ◌%◌, ◌≤◌, IfOk};
+ghost use Rattle.std.specs.Prelude.{◌≡◌, ◌%◌, IfOk};
 ghost use Rattle.mesh.specs.Growth.{SameRoom};
 ghost use Rattle.runs.specs.Jobs.{is_empty, base_mesh, base_answer};
 ghost use Rattle.job.specs.Telling.{numbers_told};
 
 use crate::copying::{copy_triangles, copy_vertices};
 use fault::Fault;
-use mesh::{GrowingStore, ReadingSurface};
+use mesh::{GrowingStore, ReadingSurface, Totals};
 use place::Place;
 use sheet::Sheet;
-use survey::{Counts, survey};
+use survey::survey;
 
 fn is_empty<S: ReadingSurface>(store: &S) -> bool
     ensures { result ≡ is_empty (S.mesh store.now) }
@@ -21,18 +21,18 @@ fn is_empty<S: ReadingSurface>(store: &S) -> bool
 pub(crate) fn take_base<P: Place, S: GrowingStore<Kind = P>>(
     store: &mut S,
     bytes: &[u8],
-) -> Result<Counts, Fault>
+) -> Result<Totals, Fault>
     ensures answer { numbers_told result ≡ base_answer P.Place.kind (S.GrowingStore.vertex_room store.old) (S.GrowingStore.triangle_room store.old) (S.ReadingSurface.mesh store.old) bytes.now }
     ensures mesh { S.ReadingSurface.mesh store.new ≡ base_mesh P.Place.kind (S.GrowingStore.vertex_room store.old) (S.GrowingStore.triangle_room store.old) (S.ReadingSurface.mesh store.old) bytes.now }
     ensures room { SameRoom S.GrowingStore.vertex_room S.GrowingStore.triangle_room store.old store.new }
-    ensures small { IfOk result (λ c. (c.vertices ≤ 16384) × (c.triangles ≤ 32768) × (c.triangles % 2 ≡ 0)) }
+    ensures even { IfOk result (λ t. t.triangles % 2 ≡ 0) }
 {
     if !is_empty(store) {
         return Err(Fault::StoreNotEmpty);
     }
     let sheet = Sheet::<P>::open_within(bytes, store.room())?;
-    let counts = survey(&sheet)?;
+    survey(&sheet)?;
     copy_vertices(&sheet, store);
     copy_triangles(&sheet, store);
-    Ok(counts)
+    Ok(sheet.totals())
 }

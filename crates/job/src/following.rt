@@ -33,8 +33,5 @@ fn back_from<S: ReadingSurface>(store: &S, v: u32) -> u32
 pub(crate) fn follow_back<S: ReadingSurface>(store: &S, v: u32) -> Option<u32>
     ensures { result ≡ ancestor (S.mesh store.now) v }
 {
-    if v >= store.vertex_count() {
-        return None;
-    }
-    Some(back_from(store, v))
+    (v < store.vertex_count()).then_some(back_from(store, v))
 }

@@ -47,7 +47,7 @@ impl Opened {
         ensures mesh { S.ReadingSurface.mesh store.new ≡ base_mesh P.Place.kind (S.GrowingStore.vertex_room store.old) (S.GrowingStore.triangle_room store.old) (S.ReadingSurface.mesh store.old) sheet.now }
         ensures room { SameRoom S.GrowingStore.vertex_room S.GrowingStore.triangle_room store.old store.new }
     {
-        let counts = take_base(store, sheet).map_err(|fault| Refused { job: self, fault })?;
-        Ok(Running::start(counts.vertices, counts.triangles))
+        let totals = take_base(store, sheet).map_err(|fault| Refused { job: self, fault })?;
+        Ok(Running::start(totals))
     }
 }

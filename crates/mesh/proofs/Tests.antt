@@ -2,7 +2,6 @@
 use Rattle.std.proofs.Common.{◌≡◌, ℕ, ◌<◌, List, length, Some, None, Option, arith}
 use Rattle.std.specs.List.{slice_get}
 use Rattle.std.proofs.lemmas.Option.{gets}
-pub use Rattle.std.proofs.lemmas.Bool.{cond-true as cond_true, cond-false as cond_false, false_from_ne_true as is_false, or_cases as or_true, or_from as false_or}
 
 pub some_inj : {X : Type 0} {x y : X} → ◌≡◌ {A = Option X} (Some x) (Some y) → x ≡ y
 some_inj e = cc

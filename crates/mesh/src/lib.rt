@@ -9,7 +9,7 @@ mod theorems;
 mod triangle;
 
 pub use growing::GrowingStore;
-pub use limits::{MAX_TRIANGLES, MAX_VERTICES, MIN_TRIANGLES, MIN_VERTICES, Room, check_counts};
+pub use limits::{MAX_TRIANGLES, MAX_VERTICES, MIN_TRIANGLES, MIN_VERTICES, Room, Totals};
 pub use passes::{Places, Triangles};
 pub use surface::ReadingSurface;
 pub use theorems::{edges_counted, edges_listed, follow_ends, sides_found};

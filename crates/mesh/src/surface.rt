@@ -7,6 +7,7 @@ ghost use Rattle.mesh.specs.Sides.{side_of};
 ghost use Rattle.mesh.specs.Meshes.{Mesh, InLimits, vertex_total, triangle_total, places, place_at, parent_at};
 ghost use Rattle.mesh.specs.Passes.{triangles_left, places_left};
 
+use crate::limits::Totals;
 use crate::passes::{Places, Triangles};
 use crate::triangle::Triangle;
 use place::Place;
@@ -37,6 +38,16 @@ pub trait ReadingSurface {
     // The lowest triangle with the side u→v.
     fn side(&self, u: u32, v: u32) -> Option<u32>
         ensures { result ≡ side_of (mesh self.now).triangles u v };
+
+    final fn totals(&self) -> Totals
+        ensures vertices { result.vertices ≡ vertex_total (mesh self.now) }
+        ensures triangles { result.triangles ≡ triangle_total (mesh self.now) }
+    {
+        Totals {
+            vertices: self.vertex_count(),
+            triangles: self.triangle_count(),
+        }
+    }
 
     // The triangles one after another, from the first on.
     final fn triangles(&self) -> Triangles<'_, Self>

@@ -43,7 +43,7 @@ impl Triangle {
         self.a != self.b && self.b != self.c && self.c != self.a
     }
 
-    // The triangle with v for its corner k, or for its last where it has no corner k.
+    // The triangle with v for its corner k, or for its last where it has no corner k. By number, as in a growing store's call.
     pub fn with_corner(self, k: u8, v: u32) -> Triangle
         ensures { tri_of result ≡ with_corner k v (tri_of self) }
     {

@@ -31,8 +31,8 @@ short_none needed have e = go (leb needed have) refl e
     go false i e = none_some e
 
 -- the size that the program computes
-pub size_is : {P D : Type 0} (k : Kind P D) (m : Mesh P) (n w V T : ℕ) → n ≡ sheet_size w V T → w ≡ k.width → V ≡ vertex_total m → T ≡ triangle_total m → n ≡ written_size k m
-size_is k m n w V T e p q r = e ∙ (λ i. sheet_size (p i) (q i) (r i))
+pub size_is : {P D : Type 0} (k : Kind P D) (m : Mesh P) (n V T : ℕ) → n ≡ sheet_size k.width V T → V ≡ vertex_total m → T ≡ triangle_total m → n ≡ written_size k m
+size_is k m n V T e q r = e ∙ (λ i. sheet_size k.width (q i) (r i))
 
 module _ {P D : Type 0} (k : Kind P D) (law : Lawful k) (m : Mesh P) where
   pub small_size : InLimits m → written_size k m ≤ 589838

@@ -9,7 +9,7 @@ use crate::checks::check_layout;
 use crate::sheet::Sheet;
 use fault::Fault;
 use mesh::Room;
-use place::{Place, word_at};
+use place::Place;
 use std::marker::PhantomData;
 
 impl<'a, P: Place> Sheet<'a, P> {
@@ -19,11 +19,10 @@ impl<'a, P: Place> Sheet<'a, P> {
     fn laid_out(bytes: &'a [u8]) -> Result<Sheet<'a, P>, Fault>
         ensures { held_by result ≡ opened (layout_fault P.Place.kind bytes.now) bytes.now }
     {
-        check_layout::<P>(bytes)?;
+        let totals = check_layout::<P>(bytes)?;
         Ok(Sheet {
             bytes,
-            vertices: word_at(bytes, 6),
-            triangles: word_at(bytes, 10),
+            totals,
             kind: PhantomData,
         })
     }
@@ -32,10 +31,10 @@ impl<'a, P: Place> Sheet<'a, P> {
     fn check_room(&self, room: Room) -> Result<(), Fault>
         ensures { result ≡ checked (capacity_fault room.vertices room.triangles self.now.bytes.now) }
     {
-        if self.vertices > room.vertices {
+        if self.totals.vertices > room.vertices {
             return Err(Fault::VertexCapacity);
         }
-        if self.triangles > room.triangles {
+        if self.totals.triangles > room.triangles {
             return Err(Fault::TriangleCapacity);
         }
         Ok(())
@@ -45,16 +44,16 @@ impl<'a, P: Place> Sheet<'a, P> {
     fn first_unplaced(&self) -> Option<u32>
         ensures { result ≡ first_in (no_place P.Place.kind self.now.bytes.now) 0 (vertices_in P.Place.kind self.now.bytes.now) }
     {
-        (0..self.vertices).find(|&v| self.place_read(v).is_none())
+        (0..self.totals.vertices).find(|&v| self.place_read(v).is_none())
     }
 
     fn check_places(&self) -> Result<(), Fault>
         ensures { result ≡ checked (place_fault P.Place.kind self.now.bytes.now) }
     {
-        match self.first_unplaced() {
-            Some(v) => Err(Fault::NoPlace(v)),
-            None => Ok(()),
+        if let Some(v) = self.first_unplaced() {
+            return Err(Fault::NoPlace(v));
         }
+        Ok(())
     }
 
     // The sheet, if its layout is right and its bytes are places.

@@ -4,7 +4,7 @@ ghost use Rattle.mesh.specs.Triangles.{tri_of};
 ghost use Rattle.sheet.specs.Writing.{put_at, triangle_bytes, head_bytes};
 ghost use Rattle.sheet.specs.ReadBack.{ShortCorners};
 
-use mesh::Triangle;
+use mesh::{Totals, Triangle};
 use place::{Place, three_words};
 
 // Puts the bytes from `at` on.
@@ -25,13 +25,13 @@ pub(crate) fn put_place<P: Place>(out: &mut [u8], at: usize, place: &P)
     put(out, at, &bytes[..P::WIDTH]);
 }
 
-// The length of what follows it, the version, the kind and both counts.
-pub(crate) fn head_bytes(following: u32, kind: u8, vertices: u32, triangles: u32) -> [u8; 14]
-    ensures { result ≡ head_bytes following kind vertices triangles }
+// The length of what follows it, the version, the kind and both counts. The kind is the byte of the format.
+pub(crate) fn head_bytes(following: u32, kind: u8, totals: Totals) -> [u8; 14]
+    ensures { result ≡ head_bytes following kind totals.vertices totals.triangles }
 {
     let [a, b, c, d] = following.to_be_bytes();
-    let [e, f, g, h] = vertices.to_be_bytes();
-    let [i, j, k, l] = triangles.to_be_bytes();
+    let [e, f, g, h] = totals.vertices.to_be_bytes();
+    let [i, j, k, l] = totals.triangles.to_be_bytes();
     [a, b, c, d, 1, kind, e, f, g, h, i, j, k, l]
 }
 

@@ -2,6 +2,7 @@
 ghost use Rattle.std.specs.Prelude.{◌≡◌, ⊤, None};
 ghost use Rattle.sheet.specs.Layout.{vertices_of, triangles_of, layout_fault};
 
+use mesh::Totals;
 use place::Place;
 use std::alloc::AllocError;
 use std::marker::PhantomData;
@@ -9,12 +10,11 @@ use std::marker::PhantomData;
 // Bytes whose layout is right, and the counts that they tell.
 pub struct Sheet<'a, P: Place> {
     pub(crate) bytes: &'a [u8],
-    pub(crate) vertices: u32,
-    pub(crate) triangles: u32,
+    pub(crate) totals: Totals,
     pub(crate) kind: PhantomData<P>,
     ghost right: { layout_fault P.Place.kind bytes.now ≡ None },
-    ghost vertices_told: { vertices ≡ vertices_of bytes.now },
-    ghost triangles_told: { triangles ≡ triangles_of bytes.now },
+    ghost vertices_told: { totals.vertices ≡ vertices_of bytes.now },
+    ghost triangles_told: { totals.triangles ≡ triangles_of bytes.now },
 }
 
 // By hand, since a struct with a type parameter and an invariant derives no `Clone`.

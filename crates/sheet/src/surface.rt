@@ -23,7 +23,7 @@ impl<'a, P: Place> Sheet<'a, P> {
     fn triangle_in(&self, t: u32) -> Triangle
         ensures { tri_of result ≡ triangle_in P.Place.kind.width self.now.bytes.now t }
     {
-        let at = HEAD + self.vertices as usize * P::WIDTH + t as usize * 12;
+        let at = HEAD + self.totals.vertices as usize * P::WIDTH + t as usize * 12;
         Triangle {
             a: word_at(self.bytes, at),
             b: word_at(self.bytes, at + 4),
@@ -46,32 +46,26 @@ impl<'a, P: Place> ReadingSurface for Sheet<'a, P> {
     ghost limited = { λ s. sheet_limited P.Place.kind s.bytes.now };
 
     fn vertex_count(&self) -> u32 {
-        self.vertices
+        self.totals.vertices
     }
 
     fn triangle_count(&self) -> u32 {
-        self.triangles
+        self.totals.triangles
     }
 
     fn triangle(&self, t: u32) -> Option<Triangle> {
-        if t >= self.triangles {
-            return None;
-        }
-        Some(self.triangle_in(t))
+        (t < self.totals.triangles).then_some(self.triangle_in(t))
     }
 
     fn place(&self, v: u32) -> Option<P> {
-        if v >= self.vertices {
-            return None;
-        }
-        Some(self.place_read(v).unwrap_or(P::origin()))
+        (v < self.totals.vertices).then_some(self.place_read(v).unwrap_or(P::origin()))
     }
 
     fn parent(&self, v: u32) -> Option<u32> {
-        (v < self.vertices).then_some(v)
+        (v < self.totals.vertices).then_some(v)
     }
 
     fn side(&self, u: u32, v: u32) -> Option<u32> {
-        (0..self.triangles).find(|&t| self.has_side(t, u, v))
+        (0..self.totals.triangles).find(|&t| self.has_side(t, u, v))
     }
 }

@@ -61,18 +61,16 @@ pub fn write_sheet<S: ReadingSurface>(surface: &S, out: &mut [u8]) -> Result<usi
     ensures written { out.new ≡ sheet_after S.Kind.Place.kind (S.ReadingSurface.mesh surface.now) out.old }
     ensures back { BackIf result S.Kind.Place.kind (S.ReadingSurface.mesh surface.now) }
 {
-    let vertices = surface.vertex_count();
-    let triangles = surface.triangle_count();
-    let width = S::Kind::WIDTH;
-    let size = sheet_size(width, vertices, triangles);
+    let totals = surface.totals();
+    let size = sheet_size::<S::Kind>(totals);
     check_buffer(size, out.len())?;
-    let following = behind_length(size);
     put(
         out,
         0,
-        &head_bytes(following, S::Kind::KIND, vertices, triangles),
+        &head_bytes(behind_length(size), S::Kind::KIND, totals),
     );
     write_places(surface, out);
-    write_triangles(surface, out, HEAD + vertices as usize * width);
+    let places_end = HEAD + totals.vertices as usize * S::Kind::WIDTH;
+    write_triangles(surface, out, places_end);
     Ok(size)
 }

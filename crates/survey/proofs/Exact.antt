@@ -12,7 +12,8 @@ use Rattle.mesh.specs.Sides.{Side, side, back, sides, side_of}
 use Rattle.mesh.specs.Rings.{Corner, at_first, at_second, at_third}
 use Rattle.mesh.specs.Closed.{Closed}
 use Rattle.mesh.specs.Limits.{counts_fault}
-use Rattle.mesh.proofs.Tests.{is_false, false_or, some_inj, none_some}
+use Rattle.std.proofs.lemmas.Bool.{false_from_ne_true, or_from}
+use Rattle.mesh.proofs.Tests.{some_inj, none_some}
 use Rattle.fault.proofs.Orders.{or_none, mapped_none}
 use Rattle.mesh.proofs.Bounds.{between_is, is_between, counts_none, none_counts}
 use Rattle.mesh.proofs.Members.{mem_cases}
@@ -91,12 +92,12 @@ unfolding first_repeated
 once_none ts f = none_all (repeats_one ts) ts (λ i. refl) each
   where
     one : (j : ℕ) (t : Tri) → slice_get ts j ≡ Some t → {u v z : ℕ} → Corner t u v z → has_lower ts j u v ≡ false
-    one j t e {u} {v} {z} c = is_false (has_lower ts j u v) (λ h.
+    one j t e {u} {v} {z} c = false_from_ne_true (has_lower ts j u v) (λ h.
         let k = true_lower j (side_of ts u v) h in
         let r = found ts u v k.0 k.2 in f k.0 j r.one t k.1 r.there_is e u v r.third z r.corner c)
 
     each : (j : ℕ) (t : Tri) → slice_get ts j ≡ Some t → repeats ts j t ≡ false
-    each j (tri a b c) e = false_or _ _ (one j (tri a b c) e at_first) (false_or _ _ (one j (tri a b c) e at_second) (one j (tri a b c) e at_third))
+    each j (tri a b c) e = or_from _ _ (one j (tri a b c) e at_first) (or_from _ _ (one j (tri a b c) e at_second) (one j (tri a b c) e at_third))
 
 -- a side without reverse
 pub some_of : (o : Option ℕ) → not (is_some o) ≡ false → (k : ℕ) × (o ≡ Some k)
@@ -136,7 +137,7 @@ backed_none ts b = none_all (λ i o. open_one ts o) ts (λ i. refl) each
     one j t e {u} {v} c = side_found ts v u (b (side u v) (link_side (nth_link ts j t e c)))
 
     each : (j : ℕ) (t : Tri) → slice_get ts j ≡ Some t → is_open ts t ≡ false
-    each j (tri x y z) e = false_or _ _ (one j (tri x y z) e at_first) (false_or _ _ (one j (tri x y z) e at_second) (one j (tri x y z) e at_third))
+    each j (tri x y z) e = or_from _ _ (one j (tri x y z) e at_first) (or_from _ _ (one j (tri x y z) e at_second) (one j (tri x y z) e at_third))
 
 -- rings
 none_ringed : (V : ℕ) (ts : List Tri) → first_unringed V ts ≡ None → (v : ℕ) → v < V → ringed ts v ≡ true

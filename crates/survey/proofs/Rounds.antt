@@ -1,7 +1,7 @@
 -- One turn of the walk round a vertex.
 use Rattle.std.proofs.Common.{◌≡◌, ℕ, suc, ◌+◌, ◌-◌, ◌<◌, Bool, false, eqb, List, Some, None, Option, refl, ap, ◌∙◌, arith, ne_eqb}
 use Rattle.mesh.specs.Triangles.{Tri}
-use Rattle.mesh.proofs.Tests.{cond_false}
+use Rattle.std.proofs.lemmas.Bool.{cond-false}
 use Rattle.survey.specs.Ringwalk.{ring_step, comes_round}
 
 abbrev pub on_from : List Tri → ℕ → ℕ → ℕ → Option ℕ → Bool
@@ -10,7 +10,7 @@ on_from ts v a n None = false
 
 pub round_suc : (ts : List Tri) (v a n x : ℕ) (o : Option ℕ) → (x ≡ a → ⊥) → ring_step ts v x ≡ o → comes_round ts v a (suc n) x ≡ on_from ts v a n o
 round_suc ts v a n x o f e =
-    cond_false (eqb x a) false _ (ne_eqb x a f) ∙ ap (λ (o : Option ℕ). elim o [ Some y ↦ comes_round ts v a n y | None ↦ false ]) e ∙ go o
+    cond-false (eqb x a) false _ (ne_eqb x a f) ∙ ap (λ (o : Option ℕ). elim o [ Some y ↦ comes_round ts v a n y | None ↦ false ]) e ∙ go o
   where
     go : (o : Option ℕ) → elim o [ Some y ↦ comes_round ts v a n y | None ↦ false ] ≡ on_from ts v a n o
     go (Some y) = refl

@@ -10,7 +10,7 @@ use Rattle.fault.specs.Faults.{or_else}
 use Rattle.mesh.specs.Triangles.{Tri, tri}
 use Rattle.mesh.specs.Sides.{side_of}
 use Rattle.mesh.specs.Rings.{Corner, at_first, at_second, at_third}
-use Rattle.mesh.proofs.Tests.{or_true}
+use Rattle.std.proofs.lemmas.Bool.{or_cases}
 use Rattle.mesh.proofs.Links.{found}
 use Rattle.survey.specs.Checks.{bad_one, bad_at, has_lower, repeats, repeats_one, repeats_at, no_side, is_open, open_one, open_at, first_bad, first_repeated, first_open}
 use Rattle.survey.specs.Ringwalk.{ringed, unringed_at, first_unringed}
@@ -70,8 +70,8 @@ repeated_spot ts i e =
 
     three : (t : Tri) → slice_get ts i ≡ Some t → repeats ts i t ≡ true → Repeats ts i
     three (tri a b c) n h =
-        ⊎_elim (λ k. one (tri a b c) n at_first k) (λ k. ⊎_elim (λ k. one (tri a b c) n at_second k) (λ k. one (tri a b c) n at_third k) (or_true (has_lower ts i b c) (has_lower ts i c a) k))
-        (or_true (has_lower ts i a b) (has_lower ts i b c || has_lower ts i c a) h)
+        ⊎_elim (λ k. one (tri a b c) n at_first k) (λ k. ⊎_elim (λ k. one (tri a b c) n at_second k) (λ k. one (tri a b c) n at_third k) (or_cases (has_lower ts i b c) (has_lower ts i c a) k))
+        (or_cases (has_lower ts i a b) (has_lower ts i b c || has_lower ts i c a) h)
 
     go : (o : Option Tri) → slice_get ts i ≡ o → repeats_one ts i (slice_get ts i) ≡ true → Repeats ts i
     go None n h = absurd (clash (sym (ap (repeats_one ts i) n) ∙ h))
@@ -88,8 +88,8 @@ open_spot ts i e =
 
     three : (t : Tri) → slice_get ts i ≡ Some t → is_open ts t ≡ true → Open ts i
     three (tri a b c) n h =
-        ⊎_elim (λ k. one (tri a b c) n at_first k) (λ k. ⊎_elim (λ k. one (tri a b c) n at_second k) (λ k. one (tri a b c) n at_third k) (or_true (no_side ts c b) (no_side ts a c) k))
-        (or_true (no_side ts b a) (no_side ts c b || no_side ts a c) h)
+        ⊎_elim (λ k. one (tri a b c) n at_first k) (λ k. ⊎_elim (λ k. one (tri a b c) n at_second k) (λ k. one (tri a b c) n at_third k) (or_cases (no_side ts c b) (no_side ts a c) k))
+        (or_cases (no_side ts b a) (no_side ts c b || no_side ts a c) h)
 
     go : (o : Option Tri) → slice_get ts i ≡ o → open_one ts (slice_get ts i) ≡ true → Open ts i
     go None n h = absurd (clash (sym (ap (open_one ts) n) ∙ h))

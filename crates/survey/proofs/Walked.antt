@@ -9,7 +9,8 @@ use Rattle.mesh.specs.Lists.{Mem, now, later, Apart, no_one, one_more}
 use Rattle.mesh.specs.Triangles.{Tri, tri}
 use Rattle.mesh.specs.Sides.{Side, side, back, sides, side_of}
 use Rattle.mesh.specs.Rings.{Corner, at_first, at_second, at_third, Link, OneRing}
-use Rattle.mesh.proofs.Tests.{cond_true, some_inj, none_some}
+use Rattle.std.proofs.lemmas.Bool.{cond-true}
+use Rattle.mesh.proofs.Tests.{some_inj, none_some}
 use Rattle.mesh.proofs.Members.{mem_cases}
 use Rattle.mesh.proofs.Walks.{Sharp}
 use Rattle.mesh.proofs.Links.{Turned, turned, corner_is, link_turn, link_side, side_link, sharp_once, link_nth, nth_link, found, lowest}
@@ -144,7 +145,7 @@ module _ (V : ℕ) (ts : List Tri) (fit : AllFit V ts) (once : Apart (sides ts))
   round_lap a (suc n) x e = go (ℕ_discrete x a) (ring_step ts v x) refl (λ y e. round_lap a n y e)
     where
       go : Dec (x ≡ a) → (o : Option ℕ) → ring_step ts v x ≡ o → ((y : ℕ) → comes_round ts v a n y ≡ true → Lap R a n y) → Lap R a (suc n) x
-      go (yes d) o i f = absurd (clash (sym (cond_true (eqb x a) false _ (eq-eqb x a d)) ∙ e))
+      go (yes d) o i f = absurd (clash (sym (cond-true (eqb x a) false _ (eq-eqb x a d)) ∙ e))
       go (no d) None i f = absurd (clash (sym (round_suc ts v a n x None d i) ∙ e))
       go (no d) (Some y) i f = on d (step_link x y i) (f y (sym (round_suc ts v a n x (Some y) d i) ∙ e))
 

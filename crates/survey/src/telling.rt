@@ -8,9 +8,10 @@ use crate::checks::{first_bad, first_open, first_repeated};
 use crate::counts::Counts;
 use crate::tally::Tally;
 use fault::Fault;
-use mesh::{ReadingSurface, check_counts};
+use mesh::{ReadingSurface, Totals};
 
-// The checks of the triangles and of the rings, each at its lowest spot.
+// The checks of the triangles and of the rings, each at its lowest spot. What is found is the refusal, so that no `?` passes
+// it on.
 fn check_shape<S: ReadingSurface>(s: &S) -> Result<(), Fault>
     ensures { result ≡ checked (shape_fault (vertex_total (S.mesh s.now)) (S.mesh s.now).triangles) }
 {
@@ -29,12 +30,14 @@ fn check_shape<S: ReadingSurface>(s: &S) -> Result<(), Fault>
     Ok(())
 }
 
-fn count(vertices: u32, edges: u32, triangles: u32) -> Counts
-    requires vertices_bound { vertices ≤ 16384 }
-    requires edges_bound { edges ≤ 49152 }
-    requires triangles_bound { triangles ≤ 32768 }
-    ensures { result ≡ counted vertices edges triangles }
+fn count(totals: Totals, edges: u32) -> Counts
+    requires { edges ≤ 49152 }
+    ensures { result ≡ counted totals.vertices edges totals.triangles }
 {
+    let Totals {
+        vertices,
+        triangles,
+    } = totals;
     Counts {
         vertices,
         edges,
@@ -56,7 +59,7 @@ fn count_edges<S: ReadingSurface>(s: &S) -> u32
 pub fn survey<S: ReadingSurface>(s: &S) -> Result<Counts, Fault>
     ensures { result ≡ surveyed (vertex_total (S.mesh s.now)) (S.mesh s.now).triangles }
 {
-    check_counts(s.vertex_count(), s.triangle_count())?;
+    let totals = Totals::new(s.vertex_count(), s.triangle_count())?;
     check_shape(s)?;
-    Ok(count(s.vertex_count(), count_edges(s), s.triangle_count()))
+    Ok(count(totals, count_edges(s)))
 }

@@ -6,7 +6,8 @@ use crate::packing::counts_bytes;
 use crate::surveying::survey_any;
 use fault::Fault;
 
-// 0 with V, E, T and V − E + T in the first 16 bytes of `out`, or the refusal's number with nothing written.
+// 0 with V, E, T and V − E + T in the first 16 bytes of `out`, or the refusal's number with nothing written. C reads a
+// number, and no `Result`.
 pub fn wz_survey_sheet(sheet: &[u8], out: &mut [u8]) -> u32
     ensures answer { result ≡ answer sheet.now out.old }
     ensures after { out.new ≡ after sheet.now out.old }

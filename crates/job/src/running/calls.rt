@@ -1,22 +1,21 @@
 // The calls of a running job.
-ghost use Rattle.std.specs.Prelude.{◌≡◌, ◌%◌, ◌≤◌};
+ghost use Rattle.std.specs.Prelude.{◌≡◌, ◌%◌};
 ghost use Rattle.runs.specs.Jobs.{fresh_numbers};
 ghost use Rattle.job.specs.Answers.{job_of, report_of};
 
 use crate::closed::{Closed, Report};
 use crate::running::Running;
+use mesh::Totals;
 
 impl Running {
-    // A job whose base has these counts.
-    pub(crate) fn start(vertices: u32, triangles: u32) -> Running
-        requires few_vertices { vertices ≤ 16384 }
-        requires few_triangles { triangles ≤ 32768 }
-        requires even { triangles % 2 ≡ 0 }
-        ensures { job_of result ≡ fresh_numbers vertices triangles }
+    // A job whose base has these totals.
+    pub(crate) fn start(base: Totals) -> Running
+        requires { base.triangles % 2 ≡ 0 }
+        ensures { job_of result ≡ fresh_numbers base.vertices base.triangles }
     {
         Running {
-            base_vertices: vertices,
-            base_triangles: triangles,
+            base_vertices: base.vertices,
+            base_triangles: base.triangles,
             records: 0,
             forest_edges: 0,
             trees: 0,

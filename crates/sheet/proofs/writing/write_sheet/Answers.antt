@@ -16,7 +16,7 @@ returns-in_err-check_buffer g c =
     let size = c.sheet_size-size.result in
     let fault = c.in_err-check_buffer.field-0.0 in
     let short = checked_err (short_fault size (length out)) fault (c.in_err-check_buffer.ensures) in
-    let e = size_is k m size _ _ _ c.sheet_size-size.ensures.value (c.WIDTH-width.ensures ∙ g.met.S.Kind.Place.constant.width_told) c.vertex_count-vertices.ensures c.triangle_count-triangles.ensures in
+    let e = size_is k m size _ _ c.sheet_size-size.ensures.value c.totals-totals.ensures.vertices c.totals-totals.ensures.triangles in
     let no = refused k law m out size fault e short in
     record { answer = search rules; written = unchanged k law m out size fault e short; back = search rules }
 
@@ -27,13 +27,12 @@ returns g c =
     let law = g.met.S.Kind.Place.lawful in
     let out = c.args.out.now in
     let size = c.sheet_size-size.result in
-    let V = c.vertex_count-vertices.result in
-    let T = c.triangle_count-triangles.result in
-    let w = c.WIDTH-width.result in
-    let vs = c.vertex_count-vertices.ensures in
-    let ts = c.triangle_count-triangles.ensures in
-    let ws = (c.WIDTH-width.ensures ∙ g.met.S.Kind.Place.constant.width_told) in
-    let e = size_is k m size w V T c.sheet_size-size.ensures.value ws vs ts in
+    let V = c.totals-totals.result.vertices in
+    let T = c.totals-totals.result.triangles in
+    let vs = c.totals-totals.ensures.vertices in
+    let ts = c.totals-totals.ensures.triangles in
+    let ws = c.WIDTH.ensures ∙ g.met.S.Kind.Place.constant.width_told in
+    let e = size_is k m size V T c.sheet_size-size.ensures.value vs ts in
     let h = short_none size (length out) (checked_ok (short_fault size (length out)) (c.in_ok-check_buffer.ensures)) in
     let room : written_size k m ≤ length out = omega arith in
     let limits = g.S.ReadingSurface.limited c.args.surface.now in
@@ -41,7 +40,7 @@ returns g c =
     let head = c.put.ensures ∙ ap (λ (bs : List ℕ). put_at 0 bs out) c.head_bytes.ensures in
     record {
       answer = answered k law m out room size e;
-      written = written k law m out room c.behind_length-following.result c.KIND.result V T (14 + V * w) c.put.new.out c.write_places.new.out c.write_triangles.new.out
-          (c.behind_length-following.ensures ∙ e) (c.KIND.ensures ∙ g.met.S.Kind.Place.constant.byte_told) vs ts (λ i. 14 + vs i * ws i) head c.write_places.ensures.after c.write_triangles.ensures.after;
+      written = written k law m out room c.behind_length.result c.KIND.result V T (14 + V * c.WIDTH.result) c.put.new.out c.write_places.new.out c.write_triangles.new.out
+          (c.behind_length.ensures ∙ e) (c.KIND.ensures ∙ g.met.S.Kind.Place.constant.byte_told) vs ts (λ i. 14 + vs i * ws i) head c.write_places.ensures.after c.write_triangles.ensures.after;
       back = (back, λ d. back (closed_counts m limits d));
     }

@@ -6,6 +6,6 @@ pub returns-in-Some : goal.returns-in-Some
 unfolding place_fault
 returns-in-Some g c = search rules
 
-pub returns-in-None : goal.returns-in-None
+pub returns : goal.returns
 unfolding place_fault
-returns-in-None g c = search rules
+returns g c = search rules

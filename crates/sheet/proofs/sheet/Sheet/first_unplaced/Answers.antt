@@ -8,4 +8,4 @@ pub returns : goal.returns
 returns g c =
     let sheet = c.args.self.now in
     let bs = sheet.bytes.now in
-    finds_first (no_place g.P.Place.kind bs) _ _ _ _ _ (vertices_right g.P.Place.kind bs sheet.vertices sheet.right sheet.vertices_told) c.find.ensures.ran (λ v b q k. search (rules, tests))
+    finds_first (no_place g.P.Place.kind bs) _ _ _ _ _ (vertices_right g.P.Place.kind bs sheet.totals.vertices sheet.right sheet.vertices_told) c.find.ensures.ran (λ v b q k. search (rules, tests))

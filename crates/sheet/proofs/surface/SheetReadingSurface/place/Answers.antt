@@ -3,8 +3,5 @@ use Rattle.mesh.proofs.Indexed.{counted_there, counted_past}
 use Rattle.sheet.proofs.Fields.{vertices_right}
 use Rattle.sheet.proofs.surface.SheetReadingSurface.place.Goals as goal
 
-pub returns-then-v-self : goal.returns-then-v-self
-returns-then-v-self g c = search (rules, counted_past, vertices_right)
-
 pub returns : goal.returns
-returns g c = search (rules, counted_there, vertices_right)
+returns g c = search (rules, counted_there, counted_past, vertices_right)

@@ -3,8 +3,5 @@ use Rattle.mesh.proofs.Indexed.{counted_there, counted_past}
 use Rattle.sheet.proofs.Fields.{triangles_right}
 use Rattle.sheet.proofs.surface.SheetReadingSurface.triangle.Goals as goal
 
-pub returns-then-t-self : goal.returns-then-t-self
-returns-then-t-self g c = search (rules, counted_past, triangles_right)
-
 pub returns : goal.returns
-returns g c = search (rules, counted_there, triangles_right)
+returns g c = search (rules, counted_there, counted_past, triangles_right)
