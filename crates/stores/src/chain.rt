@@ -1,5 +1,6 @@
 // The chain store: triangles and vertices in order of their numbers, and a chain through the
-// corners at each vertex.
+// corners at each vertex. It stands beside the list store since both are asked for, over records
+// that differ; what they do alike stands once (`fits`).
 ghost use Rattle.std.specs.Prelude.{ℕ, ◌*◌, ◌<◌, ◌≤◌, min, length};
 ghost use Rattle.stores.specs.Chains.{vertex_at, first_at, Ends, Holds};
 
