@@ -1,5 +1,5 @@
 -- Big-endian numbers of 16 and of 32 bits: the first byte is the highest.
-use Rattle.std.specs.Prelude.{ℕ, ◌+◌, ◌*◌, ◌/◌, ◌%◌, List, [], ◌∷◌, slice_index}
+use Rattle.std.specs.Prelude.{ℕ, ◌+◌, ◌*◌, ◌/◌, ◌%◌, cond, List, [], ◌∷◌, length, take, drop, None, Some, Option, nat_lt, slice_index}
 
 -- the number that the two bytes from i on stand for
 abbrev pub half : List ℕ → ℕ → ℕ
@@ -16,3 +16,7 @@ word bs i = slice_index bs i * 16777216 + slice_index bs (i + 1) * 65536 + slice
 -- the four bytes of a number
 abbrev pub word_bytes : ℕ → List ℕ
 word_bytes n = (n / 16777216 % 256) ∷ (n / 65536 % 256) ∷ (n / 256 % 256) ∷ (n % 256) ∷ []
+
+-- the first three pieces of n bytes, none where there are fewer bytes
+abbrev pub three_pieces : ℕ → List ℕ → Option (List (List ℕ))
+three_pieces n bs = cond (nat_lt (length bs) (3 * n)) None (Some (take n bs ∷ take n (drop n bs) ∷ take n (drop (2 * n) bs) ∷ []))

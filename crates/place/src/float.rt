@@ -1,12 +1,12 @@
 // Places of three finite numbers, and what is added to them.
-ghost use Rattle.std.specs.Prelude.{◌≡◌, refl, [], ◌∷◌, true, cond, length, nat_lt, None, Some, is_some};
+ghost use Rattle.std.specs.Prelude.{◌≡◌, refl, true, is_some};
 ghost use Rattle.place.specs.Finite.{three_finite, three_fit};
 ghost use Rattle.place.specs.Floats.{float_kind, float_place, float_at, three_bytes};
 ghost use Rattle.place.specs.FloatsLemmas.{float_lawful};
 
 use crate::float_place::FloatPlace;
 use crate::kind::Place;
-use crate::words::{three_words, word_at};
+use crate::words::{three_pieces, three_words};
 use std::num::{f32_from_bits_with_nan, f32_to_bits_with_nan};
 
 // Any three numbers, infinities and NaN among them; a place has only finite ones.
@@ -39,21 +39,11 @@ impl FloatPlace {
     }
 }
 
-// The number that the four bytes from `i` on stand for.
-fn float_at(from: &[u8], i: usize) -> f32
-    ensures { result ≡ float_at from.now i }
+// The number that four bytes stand for.
+fn float_of(bytes: [u8; 4]) -> f32
+    ensures { result ≡ float_at bytes 0 }
 {
-    f32_from_bits_with_nan(word_at(from, i))
-}
-
-// The three numbers in the first twelve bytes.
-fn three_floats(from: &[u8]) -> Option<[f32; 3]>
-    ensures { result ≡ cond (nat_lt (length from.now) 12) None (Some (float_at from.now 0 ∷ float_at from.now 4 ∷ float_at from.now 8 ∷ [])) }
-{
-    if from.len() < FloatPlace::WIDTH {
-        return None;
-    }
-    Some([float_at(from, 0), float_at(from, 4), float_at(from, 8)])
+    f32_from_bits_with_nan(u32::from_be_bytes(bytes))
 }
 
 // The bytes of three numbers, one after another.
@@ -98,7 +88,7 @@ impl Place for FloatPlace {
     }
 
     fn read(from: &[u8]) -> Option<FloatPlace> {
-        let [x, y, z] = three_floats(from)?;
+        let [x, y, z] = three_pieces(from)?.map(float_of);
         FloatPlace::new(x, y, z)
     }
 
@@ -107,7 +97,7 @@ impl Place for FloatPlace {
     }
 
     fn read_displacement(from: &[u8]) -> Option<FloatDisplacement> {
-        let [x, y, z] = three_floats(from)?;
+        let [x, y, z] = three_pieces(from)?.map(float_of);
         Some(FloatDisplacement { x, y, z })
     }
 

@@ -1,11 +1,11 @@
 // Places on a grid of 65,536 steps each way.
-ghost use Rattle.std.specs.Prelude.{◌≡◌, refl, [], ◌∷◌, ◌++◌, cond, length, nat_lt, None, pos, replicate, Some, ◌+ℤ◌};
+ghost use Rattle.std.specs.Prelude.{◌≡◌, refl, ◌++◌, pos, replicate, ◌+ℤ◌};
 ghost use Rattle.place.specs.Grids.{grid_kind, coordinate};
 ghost use Rattle.place.specs.GridsLemmas.{grid_lawful};
-ghost use Rattle.place.specs.Words.{half, half_bytes};
+ghost use Rattle.place.specs.Words.{half_bytes};
 
 use crate::kind::Place;
-use crate::words::half_at;
+use crate::words::three_pieces;
 
 #[derive(Clone, Copy)]
 pub struct Grid {
@@ -27,16 +27,6 @@ fn displaced_coordinate(from: u16, by: i16) -> Option<u16>
     ensures { result ≡ coordinate (pos from +ℤ by) }
 {
     from.checked_add_signed(by)
-}
-
-// The three numbers in the first six bytes.
-fn three_halves(from: &[u8]) -> Option<[u16; 3]>
-    ensures { result ≡ cond (nat_lt (length from.now) 6) None (Some (half from.now 0 ∷ half from.now 2 ∷ half from.now 4 ∷ [])) }
-{
-    if from.len() < Grid::WIDTH {
-        return None;
-    }
-    Some([half_at(from, 0), half_at(from, 2), half_at(from, 4)])
 }
 
 // The bytes of three numbers, and zeros behind them.
@@ -75,7 +65,7 @@ impl Place for Grid {
     }
 
     fn read(from: &[u8]) -> Option<Grid> {
-        let [x, y, z] = three_halves(from)?;
+        let [x, y, z] = three_pieces(from)?.map(u16::from_be_bytes);
         Some(Grid { x, y, z })
     }
 
@@ -84,12 +74,8 @@ impl Place for Grid {
     }
 
     fn read_displacement(from: &[u8]) -> Option<GridDisplacement> {
-        let [x, y, z] = three_halves(from)?;
-        Some(GridDisplacement {
-            x: x.cast_signed(),
-            y: y.cast_signed(),
-            z: z.cast_signed(),
-        })
+        let [x, y, z] = three_pieces(from)?.map(i16::from_be_bytes);
+        Some(GridDisplacement { x, y, z })
     }
 
     fn displacement_to_bytes(by: &GridDisplacement) -> [u8; 12] {

@@ -6,6 +6,7 @@ ghost use Rattle.place.specs.Kinds.{Kind, Constant, Lawful};
 pub trait Place: Copy {
     type Displacement: Copy;
 
+    // The byte that stands in the formats, and no enum: kinds are open, and whoever implements the trait brings one.
     const KIND: u8;
 
     const WIDTH: usize;

@@ -1,7 +1,7 @@
 // Big-endian numbers in a list of bytes; past the list's end there are zeros. A list and an offset stay two parameters, as
 // in `get`: an offset belongs to no list.
 ghost use Rattle.std.specs.Prelude.{◌≡◌, ◌++◌, slice_index, drop};
-ghost use Rattle.place.specs.Words.{half, word, word_bytes};
+ghost use Rattle.place.specs.Words.{three_pieces, word, word_bytes};
 
 // The byte at `i`.
 pub fn byte_at(bytes: &[u8], i: usize) -> u8
@@ -17,23 +17,27 @@ pub fn rest_of(bytes: &[u8], i: usize) -> &[u8]
     bytes.get(i..).unwrap_or(&[])
 }
 
-// The number that the two bytes from `i` on stand for.
-pub(crate) fn half_at(bytes: &[u8], i: usize) -> u16
-    ensures { result ≡ half bytes.now i }
-{
-    let rest = rest_of(bytes, i);
-    u16::from_be_bytes([byte_at(rest, 0), byte_at(rest, 1)])
-}
-
 // The number that the four bytes from `i` on stand for.
 pub fn word_at(bytes: &[u8], i: usize) -> u32
     ensures { result ≡ word bytes.now i }
 {
     let rest = rest_of(bytes, i);
-    match rest.first_chunk() {
-        Some(four) => u32::from_be_bytes(*four),
-        None => u32::from_be_bytes([byte_at(rest, 0), byte_at(rest, 1), byte_at(rest, 2), 0]),
-    }
+    u32::from_be_bytes([
+        byte_at(rest, 0),
+        byte_at(rest, 1),
+        byte_at(rest, 2),
+        byte_at(rest, 3),
+    ])
+}
+
+// The first three pieces of SIZE bytes, none where there are fewer bytes.
+pub(crate) fn three_pieces<const SIZE: usize>(from: &[u8]) -> Option<[[u8; SIZE]; 3]>
+    ensures { result ≡ three_pieces SIZE from.now }
+{
+    let (first, rest) = from.split_first_chunk()?;
+    let (second, rest) = rest.split_first_chunk()?;
+    let third = rest.first_chunk()?;
+    Some([*first, *second, *third])
 }
 
 // The bytes of three numbers, one after another.

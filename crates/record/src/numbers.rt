@@ -4,7 +4,7 @@
 ghost use Rattle.std.specs.Prelude.{◌≡◌, ◌^◌, ◌<◌, length, cond, nat_lt, ◌/◌};
 ghost use Rattle.record.specs.Packing.{Fills, Small, bytes_for, gathered, number_in, packed, spare_of};
 
-use place::{byte_at, rest_of};
+use place::byte_at;
 
 // How many bytes hold `count` numbers.
 pub(crate) fn bytes_for<const PER: usize>(count: usize) -> usize
@@ -52,14 +52,14 @@ fn gathered<const BITS: usize, const PER: usize>(numbers: &[u8]) -> u8
     byte
 }
 
-// Packs the numbers into all of `out`.
+// Packs the numbers into all of `out`. By index, since no proof learns what a `zip` with `iter_mut` leaves written.
 pub(crate) fn pack<const BITS: usize, const PER: usize>(numbers: &[u8], out: &mut [u8])
     requires fills { Fills BITS PER }
     requires small { Small BITS numbers.now }
     requires fits { length out.old ≡ bytes_for PER (length numbers.now) }
     ensures { out.new ≡ packed BITS PER (bytes_for PER (length numbers.now)) numbers.now }
 {
-    for (k, byte) in out.iter_mut().enumerate() {
-        *byte = gathered::<BITS, PER>(rest_of(numbers, PER * k));
+    for (k, piece) in numbers.chunks(PER).enumerate() {
+        out[k] = gathered::<BITS, PER>(piece);
     }
 }

@@ -24,10 +24,10 @@ fn check_values(numbers: &[u8], limit: u8) -> Result<(), Fault>
     requires { length numbers.now ≤ max_marks }
     ensures { result ≡ checked (over_fault limit 0 numbers.now) }
 {
-    match numbers.iter().position(|number| *number > limit) {
-        Some(i) => Err(Fault::ValueTooLarge(i as u32)),
-        None => Ok(()),
+    if let Some(i) = numbers.iter().position(|number| *number > limit) {
+        return Err(Fault::ValueTooLarge(i as u32));
     }
+    Ok(())
 }
 
 // The head: the length of what follows, the version, the kind byte and the number of codes.

@@ -32,14 +32,14 @@ walk_longer zero m f (suc i) e l = absurd (omega arith)
 walk_longer (suc n) zero f (suc i) e l = absurd (omega arith)
 walk_longer (suc n) (suc m) f (suc i) e l = let r = walk_longer n m f (f i) e (omega arith) in (ap (λ z. i ∷ z) r.0, r.1)
 
--- one turn along a walk that ends, from the link h past corner i to the next link
-pub walk_turn : (n : ℕ) (f : ℕ → ℕ) (h i next : ℕ) → left_over n f h ≡ 0 → h ≡ suc i → next ≡ f i → (walk n f h ≡ i ∷ walk n f next) × (left_over n f next ≡ 0)
-walk_turn n f zero i next e d q = absurd (omega arith)
-walk_turn zero f (suc h) i next e d q = absurd (omega arith)
-walk_turn (suc n) f (suc h) i next e d q =
+-- one turn along a walk that ends, from the link h past corner i
+pub walk_turn : (n : ℕ) (f : ℕ → ℕ) (h i : ℕ) → left_over n f h ≡ 0 → h ≡ suc i → (walk n f h ≡ i ∷ walk n f (f i)) × (left_over n f (f i) ≡ 0)
+walk_turn n f zero i e d = absurd (omega arith)
+walk_turn zero f (suc h) i e d = absurd (omega arith)
+walk_turn (suc n) f (suc h) i e d =
     let p : h ≡ i = omega arith in
     let r = walk_longer n (suc n) f (f h) e (omega arith) in
-    rw (q, ← p) (ap (λ z. h ∷ z) (sym r.0), r.1)
+    rw (← p) (ap (λ z. h ∷ z) (sym r.0), r.1)
 
 -- a chain depends on the links of its corners alone
 pub chain_kept : (f g : ℕ → ℕ) (h : ℕ) (is : List ℕ) → ((i : ℕ) → 0 < times i is → g i ≡ f i) → Chain f h is → Chain g h is

@@ -19,8 +19,8 @@ map_like f (y ∷ ys) (suc k) x d e = ap (λ z. f y ∷ z) (map_like f ys k x d 
 pub front_like : {X Y : Type 0} (f : X → Y) (n : ℕ) (xs : List X) (k : ℕ) (x d : X) → f x ≡ f (get_or xs k d) → front f n (set xs k x) ≡ front f n xs
 front_like f n xs k x d e = sym (take-map f n (set xs k x)) ∙ ap (take n) (map_like f xs k x d e) ∙ take-map f n xs
 
-corner_in_same : (r : ChainTriangle) (k : ℕ) (x : ChainCorner) → corner_in (with_link r k x) k ≡ x
-corner_in_same r k x = grind (arith, nat_tests)
+corner_in_same : (r : ChainTriangle) (k : ℕ) (x : ChainCorner) → k < 3 → corner_in (with_link r k x) k ≡ x
+corner_in_same r k x h = grind (arith, nat_tests)
 
 corner_in_other : (r : ChainTriangle) (k j : ℕ) (x : ChainCorner) → k < 3 → j < 3 → (j ≡ k → ⊥) → corner_in (with_link r k x) j ≡ corner_in r j
 corner_in_other r k j x h l n = grind (arith, nat_tests)
@@ -28,7 +28,7 @@ corner_in_other r k j x h l n = grind (arith, nat_tests)
 pub corner_same : (rs : List ChainTriangle) (i : ℕ) (x : ChainCorner) → i / 3 < length rs → corner_at (put_corner rs i x) i ≡ x
 corner_same rs i x h =
     let r = get_or rs (i / 3) no_triangle in
-    ap (λ z. corner_in z (i % 3)) (get_or-set_same rs (i / 3) (with_link r (i % 3) x) no_triangle h) ∙ corner_in_same r (i % 3) x
+    ap (λ z. corner_in z (i % 3)) (get_or-set_same rs (i / 3) (with_link r (i % 3) x) no_triangle h) ∙ corner_in_same r (i % 3) x (omega arith)
 
 pub corner_other : (rs : List ChainTriangle) (i : ℕ) (x : ChainCorner) (j : ℕ) → i / 3 < length rs → (j ≡ i → ⊥) → corner_at (put_corner rs i x) j ≡ corner_at rs j
 corner_other rs i x j h n =
@@ -52,12 +52,12 @@ first_other vs v h u n = ap (λ z. z.first) (get_or-set_other vs v u (with_first
 pub corners_with : (r : ChainTriangle) (k v y : ℕ) → corners_in (with_link r k (chain_corner v y)) ≡ with_corner k v (corners_in r)
 corners_with r k v y = grind (arith, nat_tests)
 
-corners_kept : (r : ChainTriangle) (k y : ℕ) → corners_in (with_link r k (chain_corner (corner_in r k).vertex y)) ≡ corners_in r
-corners_kept r k y = grind (arith, nat_tests)
+corners_kept : (r : ChainTriangle) (k y : ℕ) → k < 3 → corners_in (with_link r k (chain_corner (corner_in r k).vertex y)) ≡ corners_in r
+corners_kept r k y h = grind (arith, nat_tests)
 
 -- another link leaves the triangles as they are
 pub triangles_kept : (n : ℕ) (rs : List ChainTriangle) (p y : ℕ) → front corners_in n (put_corner rs p (chain_corner (vertex_at rs p) y)) ≡ front corners_in n rs
-triangles_kept n rs p y = let r = get_or rs (p / 3) no_triangle in front_like corners_in n rs (p / 3) (with_link r (p % 3) (chain_corner (vertex_at rs p) y)) no_triangle (corners_kept r (p % 3) y)
+triangles_kept n rs p y = let r = get_or rs (p / 3) no_triangle in front_like corners_in n rs (p / 3) (with_link r (p % 3) (chain_corner (vertex_at rs p) y)) no_triangle (corners_kept r (p % 3) y (omega arith))
 
 -- another first link leaves the vertices as they are
 pub vertices_kept : {X : Type 0} (f : ChainVertex → X) → ((r : ChainVertex) (h : ℕ) → f (with_first r h) ≡ f r) → (m : ℕ) (vs : List ChainVertex) (v h : ℕ) → front f m (put_first vs v h) ≡ front f m vs
@@ -77,5 +77,5 @@ put_three rs t x y z h =
     let r = get_or rs t no_triangle in
     let n : 3 * t ≡ 3 * t + 0 = omega arith in
     ap (λ q. put_corner (put_corner q (3 * t + 1) y) (3 * t + 2) z) (ap (λ i. put_corner rs i x) n ∙ put_at rs t 0 x (omega arith))
-    ∙ ap (λ q. put_corner q (3 * t + 2) z) (put_again rs t 1 (chain_triangle x r.b r.c) y h (omega arith))
-    ∙ put_again rs t 2 (chain_triangle x y r.c) z h (omega arith)
+    ∙ ap (λ q. put_corner q (3 * t + 2) z) (put_again rs t 1 (chain_triangle x (corner_in r 1) (corner_in r 2)) y h (omega arith))
+    ∙ put_again rs t 2 (chain_triangle x y (corner_in r 2)) z h (omega arith)

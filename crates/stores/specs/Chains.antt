@@ -10,26 +10,29 @@ abbrev pub chain_corner : ℕ → ℕ → ChainCorner
 chain_corner v y = record { vertex = v; next = y }
 
 abbrev pub chain_triangle : ChainCorner → ChainCorner → ChainCorner → ChainTriangle
-chain_triangle x y z = record { a = x; b = y; c = z }
+chain_triangle x y z = record { corners = x ∷ y ∷ z ∷ [] }
 
--- the records that are read past the end of a table
+-- what is read past the end of a record or of a table
+abbrev pub no_corner : ChainCorner
+no_corner = chain_corner 0 0
+
 abbrev pub no_triangle : ChainTriangle
-no_triangle = chain_triangle (chain_corner 0 0) (chain_corner 0 0) (chain_corner 0 0)
+no_triangle = record { corners = [] }
 
 abbrev pub no_vertex : ChainVertex
 no_vertex = record { stored = no_record; first = 0 }
 
--- a record's triangle
-abbrev pub corners_in : ChainTriangle → Tri
-corners_in r = tri r.a.vertex r.b.vertex r.c.vertex
-
 -- corner k of a record
 abbrev pub corner_in : ChainTriangle → ℕ → ChainCorner
-corner_in r k = cond (k == 0) r.a (cond (k == 1) r.b r.c)
+corner_in r k = slice_index_or r.corners k no_corner
+
+-- a record's triangle
+abbrev pub corners_in : ChainTriangle → Tri
+corners_in r = tri (corner_in r 0).vertex (corner_in r 1).vertex (corner_in r 2).vertex
 
 -- the record with another corner k
 abbrev pub with_link : ChainTriangle → ℕ → ChainCorner → ChainTriangle
-with_link r k x = cond (k == 0) (chain_triangle x r.b r.c) (cond (k == 1) (chain_triangle r.a x r.c) (chain_triangle r.a r.b x))
+with_link r k x = cond (k == 0) (chain_triangle x (corner_in r 1) (corner_in r 2)) (cond (k == 1) (chain_triangle (corner_in r 0) x (corner_in r 2)) (chain_triangle (corner_in r 0) (corner_in r 1) x))
 
 -- corner i of a table: its vertex, and the link that follows it
 abbrev pub corner_at : List ChainTriangle → ℕ → ChainCorner

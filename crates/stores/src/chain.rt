@@ -1,9 +1,10 @@
 // The chain store: triangles and vertices in order of their numbers, and a chain through the
-// corners at each vertex.
-ghost use Rattle.std.specs.Prelude.{ℕ, ◌*◌, ◌<◌, ◌≤◌, ◌≡◌, min, take, length};
+// corners at each vertex. It stands beside the list store since both are asked for, over records
+// that differ; what they do alike stands once (`fits`).
+ghost use Rattle.std.specs.Prelude.{ℕ, ◌*◌, ◌<◌, ◌≤◌, min, length};
 ghost use Rattle.stores.specs.Chains.{vertex_at, first_at, Ends, Holds};
 
-use crate::chain_record::{ChainTables, ChainTriangle, ChainVertex};
+use crate::chain_record::ChainTables;
 use std::marker::PhantomData;
 
 // The records in use are the first ones of each table. `P` is the kind of place. The counts stand
@@ -21,18 +22,4 @@ pub struct ChainStore<'a, P> {
     // The chain of each vertex ends, and holds the corners at it.
     ghost ends: { (v : ℕ) → v < vertex_count → Ends (3 * triangle_count) tables.triangles.now (first_at tables.vertices.now v) },
     ghost holds: { (v : ℕ) → v < vertex_count → Holds (3 * triangle_count) tables.triangles.now (first_at tables.vertices.now v) v },
-}
-
-impl<'a, P> ChainStore<'a, P> {
-    pub(crate) fn triangles_in_use(&self) -> &[ChainTriangle]
-        ensures { result.now ≡ take self.now.triangle_count self.now.tables.triangles.now }
-    {
-        &self.tables.triangles[..self.triangle_count as usize]
-    }
-
-    pub(crate) fn vertices_in_use(&self) -> &[ChainVertex]
-        ensures { result.now ≡ take self.now.vertex_count self.now.tables.vertices.now }
-    {
-        &self.tables.vertices[..self.vertex_count as usize]
-    }
 }

@@ -12,8 +12,7 @@ impl<'a> ChainTables<'a> {
         requires { i / 3 < length self.now.triangles.now }
         ensures { result ≡ corner_at self.now.triangles.now i }
     {
-        let r = self.triangles[(i / 3) as usize];
-        r.corner(i % 3)
+        self.triangles[(i / 3) as usize].corners[(i % 3) as usize]
     }
 
     fn put_corner(&mut self, i: u32, x: ChainCorner)
@@ -21,8 +20,8 @@ impl<'a> ChainTables<'a> {
         ensures written { self.new.triangles.now ≡ put_corner self.old.triangles.now i x }
         ensures same { self.new.vertices.now ≡ self.old.vertices.now }
     {
-        let t = (i / 3) as usize;
-        self.triangles[t] = self.triangles[t].with_corner(i % 3, x);
+        let r = &mut self.triangles[(i / 3) as usize];
+        r.corners[(i % 3) as usize] = x;
     }
 
     fn put_first(&mut self, v: u32, link: u32)

@@ -2,6 +2,7 @@
 ghost use Rattle.stores.specs.Chained.{chain_mesh, chain_limited};
 
 use crate::chain::ChainStore;
+use crate::fits::in_use;
 use mesh::{ReadingSurface, Triangle};
 use place::Place;
 
@@ -21,19 +22,19 @@ impl<'a, P: Place> ReadingSurface for ChainStore<'a, P> {
     }
 
     fn triangle(&self, t: u32) -> Option<Triangle> {
-        self.triangles_in_use()
+        in_use(self.tables.triangles, self.triangle_count)
             .get(t as usize)
             .map(|r| r.triangle())
     }
 
     fn place(&self, v: u32) -> Option<P> {
-        self.vertices_in_use()
+        in_use(self.tables.vertices, self.vertex_count)
             .get(v as usize)
             .map(|r| r.stored.place())
     }
 
     fn parent(&self, v: u32) -> Option<u32> {
-        self.vertices_in_use()
+        in_use(self.tables.vertices, self.vertex_count)
             .get(v as usize)
             .map(|r| r.stored.parent)
     }

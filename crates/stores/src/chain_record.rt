@@ -16,9 +16,7 @@ pub struct ChainCorner {
 
 #[derive(Clone, Copy)]
 pub struct ChainTriangle {
-    pub a: ChainCorner,
-    pub b: ChainCorner,
-    pub c: ChainCorner,
+    pub corners: [ChainCorner; 3],
 }
 
 // A vertex, and the link to the first corner at it.
@@ -33,44 +31,21 @@ impl ChainCorner {
 }
 
 impl ChainTriangle {
-    ghost use Rattle.stores.specs.Chains.{corners_in, corner_in, with_link};
+    ghost use Rattle.stores.specs.Chains.{corners_in};
 
     // What a table may be filled with before a store takes it.
     pub const UNUSED: ChainTriangle = ChainTriangle {
-        a: ChainCorner::UNUSED,
-        b: ChainCorner::UNUSED,
-        c: ChainCorner::UNUSED,
+        corners: [ChainCorner::UNUSED; 3],
     };
 
     pub(crate) fn triangle(&self) -> Triangle
         ensures { tri_of result ≡ corners_in self.now }
     {
+        let [a, b, c] = self.corners;
         Triangle {
-            a: self.a.vertex,
-            b: self.b.vertex,
-            c: self.c.vertex,
-        }
-    }
-
-    // The corner k, or the last where there is no corner k.
-    pub(crate) fn corner(&self, k: u32) -> ChainCorner
-        ensures { result ≡ corner_in self.now k }
-    {
-        match k {
-            0 => self.a,
-            1 => self.b,
-            _ => self.c,
-        }
-    }
-
-    // The triangle with x for its corner k, or for its last where it has no corner k.
-    pub(crate) fn with_corner(self, k: u32, x: ChainCorner) -> ChainTriangle
-        ensures { result ≡ with_link self k x }
-    {
-        match k {
-            0 => ChainTriangle { a: x, ..self },
-            1 => ChainTriangle { b: x, ..self },
-            _ => ChainTriangle { c: x, ..self },
+            a: a.vertex,
+            b: b.vertex,
+            c: c.vertex,
         }
     }
 }

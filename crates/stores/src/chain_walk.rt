@@ -27,8 +27,7 @@ impl<'t> Iterator for Chain<'t> {
 
     fn next(&mut self) -> Option<u32> {
         let i = self.link.checked_sub(1)?;
-        let r = self.triangles[(i / 3) as usize];
-        self.link = r.corner(i % 3).next;
+        self.link = self.triangles[(i / 3) as usize].corners[(i % 3) as usize].next;
         Some(i)
     }
 }

@@ -1,10 +1,18 @@
-// What both stores ask of their tables: how much room there is, and which changes they may make. Places, parents, corners
-// and vertices go by themselves, as in the calls of a growing store, which may be asked for any.
-ghost use Rattle.std.specs.Prelude.{◌≡◌, min};
+// What both stores ask of their tables: which records are in use, how much room there is, and which changes they may make.
+// Places, parents, corners and vertices go by themselves, as in the calls of a growing store, which may be asked for any.
+ghost use Rattle.std.specs.Prelude.{◌≡◌, ◌≤◌, min, take, length};
 ghost use Rattle.mesh.specs.Triangles.{tri_of};
 ghost use Rattle.mesh.specs.Growth.{may_add_vertex, may_add_triangle, may_replace_corner, may_replace_place};
 
 use mesh::{MAX_TRIANGLES, MAX_VERTICES, ReadingSurface, Room, Triangle};
+
+// The records in use: the first ones of a table.
+pub(crate) fn in_use<R>(table: &[R], count: u32) -> &[R]
+    requires { count ≤ length table.now }
+    ensures { result.now ≡ take count table.now }
+{
+    &table[..count as usize]
+}
 
 // The room in tables of these lengths, within the limits of a mesh.
 pub(crate) fn room_of(triangles: usize, vertices: usize) -> Room

@@ -1,5 +1,5 @@
 // The list store: triangles and vertices in order of their numbers.
-ghost use Rattle.std.specs.Prelude.{◌≡◌, ◌≤◌, min, take, length};
+ghost use Rattle.std.specs.Prelude.{◌≤◌, min, length};
 
 use crate::record::VertexRecord;
 use mesh::Triangle;
@@ -16,19 +16,4 @@ pub struct ListStore<'a, P> {
     pub(crate) kind: PhantomData<P>,
     ghost triangles_fit: { triangle_count ≤ min (length triangles.now) 32768 },
     ghost vertices_fit: { vertex_count ≤ min (length vertices.now) 16384 },
-}
-
-impl<'a, P> ListStore<'a, P> {
-    // The records in use; one line for each table, since a chain store's tables are linked before a count grows.
-    pub(crate) fn triangles_in_use(&self) -> &[Triangle]
-        ensures { result.now ≡ take self.now.triangle_count self.now.triangles.now }
-    {
-        &self.triangles[..self.triangle_count as usize]
-    }
-
-    pub(crate) fn vertices_in_use(&self) -> &[VertexRecord]
-        ensures { result.now ≡ take self.now.vertex_count self.now.vertices.now }
-    {
-        &self.vertices[..self.vertex_count as usize]
-    }
 }

@@ -1,6 +1,7 @@
 // The list store as a surface: it searches its triangles for a side.
 ghost use Rattle.stores.specs.Listed.{list_mesh, list_limited};
 
+use crate::fits::in_use;
 use crate::list::ListStore;
 use mesh::{ReadingSurface, Triangle};
 use place::Place;
@@ -21,19 +22,25 @@ impl<'a, P: Place> ReadingSurface for ListStore<'a, P> {
     }
 
     fn triangle(&self, t: u32) -> Option<Triangle> {
-        self.triangles_in_use().get(t as usize).copied()
+        in_use(self.triangles, self.triangle_count)
+            .get(t as usize)
+            .copied()
     }
 
     fn place(&self, v: u32) -> Option<P> {
-        self.vertices_in_use().get(v as usize).map(|r| r.place())
+        in_use(self.vertices, self.vertex_count)
+            .get(v as usize)
+            .map(|r| r.place())
     }
 
     fn parent(&self, v: u32) -> Option<u32> {
-        self.vertices_in_use().get(v as usize).map(|r| r.parent)
+        in_use(self.vertices, self.vertex_count)
+            .get(v as usize)
+            .map(|r| r.parent)
     }
 
     fn side(&self, u: u32, v: u32) -> Option<u32> {
-        self.triangles_in_use()
+        in_use(self.triangles, self.triangle_count)
             .iter()
             .position(|t| t.side_corner(u, v).is_some())
             .map(|i| i as u32)

@@ -12,9 +12,9 @@ returns-in-Some c =
     position_from_yields_List (λ (x : ℕ). ltb c.args.limit x) _ _ c.position.result c.position.ensures.ran (YieldsList-from_slice xs cc) (λ x b q k. search (rules, tests)) in
     rw (over_first c.args.limit xs, ← first, c.in-Some.is) refl
 
-pub returns-in-None : goal.returns-in-None
-returns-in-None c =
+pub returns : goal.returns
+returns c =
     let xs = c.args.numbers.now in
     let first : c.position.result ≡ position (λ (x : ℕ). ltb c.args.limit x) xs =
     position_from_yields_List (λ (x : ℕ). ltb c.args.limit x) _ _ c.position.result c.position.ensures.ran (YieldsList-from_slice xs cc) (λ x b q k. search (rules, tests)) in
-    rw (over_first c.args.limit xs, ← first, c.in-None.is) refl
+    rw (over_first c.args.limit xs, ← first, c.in_default.is) refl

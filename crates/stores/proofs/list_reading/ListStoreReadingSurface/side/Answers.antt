@@ -12,6 +12,6 @@ pub returns : goal.returns
 returns g c =
     let s = c.args.self.now in
     let ts = take s.triangle_count s.triangles.now in
-    let p = position_from_yields_List (λ t. is_some (corner_of c.args.u c.args.v (tri_of t))) _ _ c.position.result c.position.ensures.ran (YieldsList-from_slice ts (c.iter.ensures.rest ∙ c.triangles_in_use.ensures)) (λ x b q k. search (rules, tests)) in
+    let p = position_from_yields_List (λ t. is_some (corner_of c.args.u c.args.v (tri_of t))) _ _ c.position.result c.position.ensures.ran (YieldsList-from_slice ts (c.iter.ensures.rest ∙ c.in_use.ensures)) (λ x b q k. search (rules, tests)) in
     let m : c.map.result ≡ c.position.result = search rules in
     m ∙ p ∙ position_from-zero (λ t. is_some (corner_of c.args.u c.args.v (tri_of t))) ts ∙ side_position tri_of c.args.u c.args.v 0 ts
