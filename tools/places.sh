@@ -15,14 +15,14 @@ count() {
 
 echo "== 1 values that may be missing, refusals, flags, numbers"
 count "checks that answer Option<Fault>" -e '-> Option<Fault>'
-count "refusals handed on by hand" -e 'if let Some\(fault\)|Some\(fault\) => (Some|Err)|Err\((fault|back)\) => Err'
+count "refusals handed on by hand" -e 'if let Some\(fault\)|Some\(fault\) => (Some|Err)|Err\((fault|back|error)\) => Err'
 count "missing values handed on or replaced by hand" -e '^\s*None => (None|false|return false|v|P::origin\(\)|Some\(P::origin\(\)\)|if )'
 printf '%s: %s\n' "else branches that answer None" "$(cat $sources | perl -0ne '$n = () = /else\s*\{\s*None\s*\}/g; print $n')"
 count "a flag with a value beside it" -e 'bool, [a-z]+: (u32|usize)'
 count "numbers that mean nothing" -e '^pub fn \w+(<.*>)?\(\) -> u8'
 count "numbers for layers, kinds and corners" -e 'fn layer\(&self\) -> u8|fn kind_byte\(\)|const KIND: u8|\b(kind|corner|k): u8'
 echo "== 3 loops"
-count "loops over a range, and while loops" -e '^\s*(for \w+ in 0\.\.|while |loop )'
+count "loops over a range, and while loops" -e '^\s*(for \w+ in [0-9]+\.\.|while |loop )'
 echo "== 4 impls and packing by hand"
 count "impls" -e '^impl.*(Display|PartialEq|PartialOrd|Ord|Clone|Copy|Debug|Default|From<.*|TryFrom<.*)\b.* for '
 count "bytes of a number taken apart" -e 'let \[.*\] = .*to_be_bytes'

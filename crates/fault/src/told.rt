@@ -7,7 +7,7 @@ use crate::fault::{Count, Fault};
 use crate::layer::Layer;
 
 impl Fault {
-    // From 1 to 34.
+    // From 1 to 34: C programs and printed lines tell a refusal by its number.
     pub fn number(&self) -> u8
         ensures { result ≡ (told self.now).number }
     {
@@ -87,8 +87,8 @@ impl Fault {
         }
     }
 
-    // Where the fault lies: an index, an offset, a vertex, an edge, a triangle or a tree; 0 where nothing is named, since
-    // whoever tells a refusal tells a number here.
+    // Where the fault lies: an index, an offset, a vertex, an edge, a triangle or a tree. Each refusal has
+    // a spot by the rules, 0 where they name nothing.
     pub fn spot(&self) -> u32
         ensures { result ≡ (told self.now).spot }
     {

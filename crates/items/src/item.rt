@@ -17,7 +17,7 @@ pub enum Item {
     Whole(usize),
 }
 
-// Fills the bytes, or tells that the input ended before.
+// Fills the bytes, or tells that the input ended before, which is no error here; `?` would hand on both.
 fn is_filled<R: Read>(input: &mut R, bytes: &mut [u8]) -> io::Result<bool>
     ensures { length bytes.new ≡ length bytes.old }
 {

@@ -11,7 +11,7 @@ pub const MIN_TRIANGLES: u32 = 2;
 
 pub const MAX_TRIANGLES: u32 = 32_768;
 
-// How many vertices and triangles there may be.
+// How many vertices and triangles there may be: any numbers, where those of a mesh, `Totals`, are within its limits.
 #[derive(Clone, Copy, PartialEq, Eq, Debug)]
 pub struct Room {
     pub vertices: u32,

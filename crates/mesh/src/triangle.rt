@@ -14,8 +14,8 @@ pub struct Triangle {
 }
 
 impl Triangle {
-    // The corner, 0, 1 or 2, that begins the side u→v; the lowest if several do. Three comparisons say it as plainly as
-    // a search through a list of three sides.
+    // The corner that begins the side u→v; the lowest if several do. By number, 0, 1 or 2, as in a growing store's call. Three
+    // comparisons say it as plainly as a search through a list of three sides.
     pub fn side_corner(&self, u: u32, v: u32) -> Option<u8>
         ensures { result ≡ corner_of u v (tri_of self.now) }
     {

@@ -29,7 +29,8 @@ fn displaced_coordinate(from: u16, by: i16) -> Option<u16>
     from.checked_add_signed(by)
 }
 
-// The bytes of three numbers, and zeros behind them.
+// The bytes of three numbers, and zeros behind them. Written out, as those of three words are: one text for both would be
+// three copies into a buffer that has room for them only where the numbers are short.
 fn six_bytes(x: u16, y: u16, z: u16) -> [u8; 12]
     ensures { result ≡ half_bytes x ++ (half_bytes y ++ half_bytes z) ++ replicate 6 0 }
 {

@@ -29,7 +29,8 @@ pub trait Place: Copy {
     fn read(from: &[u8]) -> Option<Self>
         ensures { result ≡ kind.read from.now };
 
-    // The place's bytes in front, zeros behind them.
+    // The place's bytes in front, zeros behind them. Twelve bytes for every kind: an array's length cannot be a constant that
+    // each kind gives.
     fn to_bytes(&self) -> [u8; 12]
         ensures value { result ≡ kind.bytes self.now ++ replicate (12 - kind.width) 0 }
         ensures held { kind.holds self.now ≡ true };

@@ -19,7 +19,7 @@ fn count_not_zero(numbers: &[u8]) -> usize
     numbers.iter().filter(|number| **number != 0).count()
 }
 
-// Refuses the first number that is over a limit.
+// Refuses the first number that is over a limit. What is found is the refusal, so that no `?` passes it on.
 fn check_values(numbers: &[u8], limit: u8) -> Result<(), Fault>
     requires { length numbers.now ≤ max_marks }
     ensures { result ≡ checked (over_fault limit 0 numbers.now) }

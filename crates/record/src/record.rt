@@ -87,7 +87,7 @@ impl<'a> Record<'a> {
         self.edges <= MAX_MARKS && self.codes_from() <= self.bytes.len()
     }
 
-    // The head and the marks: refusals 20 to 24.
+    // The head and the marks: refusals 20 to 24. A sheet's head has a text of its own: it is longer, and its refusals are others.
     pub fn check_head<P: Place>(&self) -> Result<(), Fault>
         ensures { result ≡ checked (head_fault P.Place.kind self.now.bytes.now self.now.edges) }
     {

@@ -47,6 +47,7 @@ impl<'a, P: Place> Sheet<'a, P> {
         (0..self.totals.vertices).find(|&v| self.place_read(v).is_none())
     }
 
+    // What is found is the refusal, so that no `?` passes it on.
     fn check_places(&self) -> Result<(), Fault>
         ensures { result ≡ checked (place_fault P.Place.kind self.now.bytes.now) }
     {

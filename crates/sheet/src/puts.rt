@@ -25,7 +25,8 @@ pub(crate) fn put_place<P: Place>(out: &mut [u8], at: usize, place: &P)
     put(out, at, &bytes[..P::WIDTH]);
 }
 
-// The length of what follows it, the version, the kind and both counts. The kind is the byte of the format.
+// The length of what follows it, the version, the kind and both counts. The kind is the byte of the format, and a record's
+// head tells other things behind it.
 pub(crate) fn head_bytes(following: u32, kind: u8, totals: Totals) -> [u8; 14]
     ensures { result ≡ head_bytes following kind totals.vertices totals.triangles }
 {

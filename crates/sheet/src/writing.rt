@@ -43,7 +43,8 @@ fn write_places<S: ReadingSurface>(surface: &S, out: &mut [u8])
     }
 }
 
-// The triangles, from `at` on.
+// The triangles, from `at` on. One text for both would take the rows, their width, what makes their bytes, and what the bytes
+// tell of them.
 fn write_triangles<S: ReadingSurface>(surface: &S, out: &mut [u8], at: usize)
     requires { at + triangle_total (S.ReadingSurface.mesh surface.now) * 12 ≤ length out.old }
     ensures after { out.new ≡ put_at at (rows triangle_bytes (S.ReadingSurface.mesh surface.now).triangles) out.old }

@@ -4,7 +4,7 @@ use mesh::{GrowingStore, ReadingSurface, Triangle};
 use place::Place;
 use std::alloc::{AllocError, Global};
 
-// What the calls answered, as numbers; an answer of none is 4,294,967,295.
+// What the calls answered, as one list of numbers, which is printed; so an answer of none is a number, 4,294,967,295.
 #[derive(Drop)]
 pub struct Answers {
     pub numbers: Vec<u32>,

@@ -40,6 +40,7 @@ impl<'a, P: Place> ReadingSurface for ChainStore<'a, P> {
     }
 
     fn side(&self, u: u32, v: u32) -> Option<u32> {
+        // Chains begin at the vertices in use.
         if u >= self.vertex_count {
             return None;
         }

@@ -6,8 +6,8 @@ use crate::record::VertexRecord;
 use mesh::Triangle;
 
 // A corner: its vertex, and the link to the next corner at that vertex. Corner k of triangle t has
-// the number 3t + k. The link to a corner is its number and one, and the link 0 ends a chain. Links are
-// numbers, since the tables are lent and memory is fixed.
+// the number 3t + k. The link to a corner is its number and one, and the link 0 ends a chain: an
+// `Option` would make each corner half as large again. Links are numbers, since the tables are lent and memory is fixed.
 #[derive(Clone, Copy)]
 pub struct ChainCorner {
     pub vertex: u32,
