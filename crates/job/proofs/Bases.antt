@@ -1,6 +1,5 @@
 -- A base call, path by path.
-use Rattle.std.proofs.Common.{◌≡◌, ℕ, ◌*◌, ◌%◌, ◌<◌, Bool, true, false, cond, not, eqb, leb, List, [], length, Some, None, Ok, Err, Option, sym, refl, ap, ◌∙◌, subst, arith, eqb-true, leb-true}
-use borrow.Author.Tests.{not-false}
+use Rattle.std.proofs.Common.{◌≡◌, ℕ, ◌*◌, ◌%◌, ◌<◌, Bool, true, cond, eqb, leb, List, [], length, Some, None, Ok, Err, Option, sym, refl, ap, ◌∙◌, subst, arith, eqb-true, leb-true}
 use Rattle.std.specs.List.{slice_get}
 use Rattle.std.proofs.lemmas.List.{nil_from_length}
 use Rattle.std.proofs.lemmas.Bool.{and_parts}
@@ -12,34 +11,30 @@ use Rattle.fault.proofs.Orders.{or_none, mapped_none, test_passed}
 use Rattle.place.specs.Kinds.{Kind}
 use Rattle.mesh.specs.Triangles.{Tri}
 use Rattle.mesh.specs.Meshes.{Mesh, Vertex, mesh_of, vertex_total, triangle_total}
-use Rattle.mesh.specs.Growth.{all_below, different}
 use Rattle.mesh.specs.Limits.{counts_fault}
 use Rattle.mesh.proofs.Tests.{some_inj}
 use Rattle.std.proofs.lemmas.List.FromFn.{length-map-range_with_len}
+use Rattle.mesh.specs.Copies.{copied}
+use Rattle.mesh.proofs.Copied.{Copyable, copied_whole}
 use Rattle.mesh.proofs.Indexed.{counted_there}
 use Rattle.survey.specs.declared.counts.Counts.{Counts}
-use Rattle.survey.specs.Checks.{good_corners, bad_one, first_bad}
+use Rattle.survey.specs.Checks.{first_bad}
 use Rattle.survey.specs.Survey.{survey_fault, edge_count, counted, counted_unless, surveyed}
 use Rattle.survey.proofs.Exact.{edges_half_told}
-use Rattle.mesh.proofs.Firsts.{all_none}
+use Rattle.survey.proofs.Index.{good_fitting}
 use Rattle.sheet.specs.Layout.{vertices_of, triangles_of, unless, layout_fault, capacity_fault}
 use Rattle.sheet.specs.Content.{triangle_in, vertex_in, vertices_in, triangles_in, sheet_mesh, sheet_fault_within}
 use Rattle.sheet.specs.Opening.{opened}
 use Rattle.sheet.proofs.Opened.{opened_ok, opened_err}
 use Rattle.sheet.proofs.Fields.{vertices_right, triangles_right}
 use Rattle.runs.specs.Jobs.{base_numbers, fresh_numbers, is_empty, base_fault, mesh_unless, base_mesh, numbers_unless, base_answer}
-use Rattle.job.specs.Copies.{Copyable, first_vertices}
-
-bad_none : (V : ℕ) (ts : List Tri) → first_bad V ts ≡ None → (i : ℕ) (x : Tri) → slice_get ts i ≡ Some x → not (good_corners V x) ≡ false
-unfolding first_bad
-bad_none V ts e i x h = all_none (λ i o. bad_one V o) ts e i x h
 
 -- three edges for two triangles: the triangles are even in number
 even : (E T : ℕ) → 2 * E ≡ 3 * T → T % 2 ≡ 0
 even E T e = omega arith
 
-pub empty_start : {P : Type 0} (m n : Mesh P) → is_empty m ≡ true → m ≡ first_vertices 0 n
-empty_start m n e =
+empty_start : {P : Type 0} (m : Mesh P) → is_empty m ≡ true → m ≡ mesh_of [] []
+empty_start m e =
     let p = and_parts (eqb (vertex_total m) 0) (eqb (triangle_total m) 0) e in
     ap (λ ts. mesh_of ts m.vertices) (nil_from_length m.triangles (eqb-true _ 0 p.1)) ∙ ap (λ vs. mesh_of [] vs) (nil_from_length m.vertices (eqb-true _ 0 p.0))
 
@@ -102,7 +97,7 @@ module _ {P D : Type 0} (k : Kind P D) (vr tr : ℕ) (m : Mesh P) (bs : List ℕ
   pub accepted_answer : (xs : List ℕ) (c : Counts) (v t : ℕ) → is_empty m ≡ true → Accepted xs c → v ≡ vertex_total (sheet_mesh k xs) → t ≡ triangle_total (sheet_mesh k xs) → Ok (fresh_numbers v t) ≡ base_answer k vr tr m bs
   accepted_answer xs c v t e a p q = (λ i. Ok (fresh_numbers (p i) (q i))) ∙ (ap (λ (ys : List ℕ). Ok (base_numbers (sheet_mesh k ys))) a.same ∙ sym (ap (λ (o : Option Fault). numbers_unless o (base_numbers (sheet_mesh k bs))) (accepted_none xs c e a)))
 
-  pub accepted_mesh : (xs : List ℕ) (c : Counts) → is_empty m ≡ true → Accepted xs c → sheet_mesh k xs ≡ base_mesh k vr tr m bs
+  accepted_mesh : (xs : List ℕ) (c : Counts) → is_empty m ≡ true → Accepted xs c → sheet_mesh k xs ≡ base_mesh k vr tr m bs
   accepted_mesh xs c e a = ap (sheet_mesh k) a.same ∙ sym (ap (λ (o : Option Fault). mesh_unless o m (sheet_mesh k bs)) (accepted_none xs c e a))
 
   pub accepted_even : (xs : List ℕ) (c : Counts) (t : ℕ) → Accepted xs c → t ≡ triangle_total (sheet_mesh k xs) → t % 2 ≡ 0
@@ -112,7 +107,7 @@ module _ {P D : Type 0} (k : Kind P D) (vr tr : ℕ) (m : Mesh P) (bs : List ℕ
       ap (λ (x : ℕ). x % 2) n ∙ even (edge_count ts) (length ts) (edges_half_told (vertex_total (sheet_mesh k bs)) ts a.shape_fine).0
 
   -- the sheet's mesh can be taken over
-  pub accepted_copyable : (xs : List ℕ) (c : Counts) → Accepted xs c → Copyable vr tr (sheet_mesh k xs)
+  accepted_copyable : (xs : List ℕ) (c : Counts) → Accepted xs c → Copyable vr tr (sheet_mesh k xs)
   accepted_copyable xs c a = subst (λ (ys : List ℕ). Copyable vr tr (sheet_mesh k ys)) (sym a.same) there
     where
       layout : layout_fault k bs ≡ None
@@ -134,13 +129,7 @@ module _ {P D : Type 0} (k : Kind P D) (vr tr : ℕ) (m : Mesh P) (bs : List ℕ
           let t = length-map-range_with_len (triangle_in k.width bs) 0 (triangles_in k bs) ∙ sym (triangles_right k bs (triangles_of bs) layout refl) in
           let p = leb-true (vertices_of bs) vr room.0 in
           let q = leb-true (triangles_of bs) tr room.1 in
-          record {
-            few_vertices = omega arith;
-            few_triangles = omega arith;
-            own = λ w x e. own_parent w x e;
-            corners_below = λ n x e. (good n x e).0;
-            corners_differ = λ n x e. (good n x e).1;
-          }
+          record { fits = good_fitting vr tr (sheet_mesh k bs) corners (omega arith) (omega arith); own = own_parent }
         where
           own_parent : (w : ℕ) (x : Vertex P) → slice_get (sheet_mesh k bs).vertices w ≡ Some x → x.parent ≡ w
           own_parent w x e =
@@ -148,5 +137,7 @@ module _ {P D : Type 0} (k : Kind P D) (vr tr : ℕ) (m : Mesh P) (bs : List ℕ
               let n = length-map-range_with_len (vertex_in k bs) 0 (vertices_in k bs) in
               let h : w < vertices_in k bs = omega arith in sym (ap (λ (y : Vertex P). y.parent) (some_inj (sym (counted_there (vertex_in k bs) (vertices_in k bs) w h) ∙ e)))
 
-          good : (n : ℕ) (x : Tri) → slice_get (sheet_mesh k bs).triangles n ≡ Some x → (all_below (vertex_total (sheet_mesh k bs)) x ≡ true) × (different x ≡ true)
-          good n x e = and_parts _ _ (not-false _ (bad_none (vertex_total (sheet_mesh k bs)) (sheet_mesh k bs).triangles corners n x e))
+  -- and then the store has it
+  pub accepted_copy : (xs : List ℕ) (c : Counts) (after : Mesh P) → is_empty m ≡ true → Accepted xs c → after ≡ copied vr tr (sheet_mesh k xs) m → after ≡ base_mesh k vr tr m bs
+  accepted_copy xs c after e a copy =
+      copy ∙ ap (copied vr tr (sheet_mesh k xs)) (empty_start m e) ∙ copied_whole vr tr (sheet_mesh k xs) (accepted_copyable xs c a) ∙ accepted_mesh xs c e a

@@ -1,3 +1,2 @@
-pub mod Taking
 pub mod Bases
 pub mod Steps

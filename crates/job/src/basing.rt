@@ -4,12 +4,11 @@ ghost use Rattle.mesh.specs.Growth.{SameRoom};
 ghost use Rattle.runs.specs.Jobs.{is_empty, base_mesh, base_answer};
 ghost use Rattle.job.specs.Telling.{numbers_told};
 
-use crate::copying::{copy_triangles, copy_vertices};
 use fault::Fault;
-use mesh::{GrowingStore, ReadingSurface, Totals};
+use mesh::{GrowingStore, ReadingSurface, Totals, copy_surface};
 use place::Place;
 use sheet::Sheet;
-use survey::survey;
+use survey::survey_indexed;
 
 fn is_empty<S: ReadingSurface>(store: &S) -> bool
     ensures { result ≡ is_empty (S.mesh store.now) }
@@ -31,8 +30,7 @@ pub(crate) fn take_base<P: Place, S: GrowingStore<Kind = P>>(
         return Err(Fault::StoreNotEmpty);
     }
     let sheet = Sheet::<P>::open_within(bytes, store.room())?;
-    survey(&sheet)?;
-    copy_vertices(&sheet, store);
-    copy_triangles(&sheet, store);
+    survey_indexed(&sheet)?;
+    copy_surface(&sheet, store);
     Ok(sheet.totals())
 }

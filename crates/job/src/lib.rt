@@ -3,7 +3,6 @@
 
 mod basing;
 mod closed;
-mod copying;
 mod following;
 mod opened;
 mod running;

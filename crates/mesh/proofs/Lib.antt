@@ -11,3 +11,4 @@ pub mod Counting
 pub mod Following
 pub mod Changing
 pub mod Passing
+pub mod Copied

@@ -10,3 +10,4 @@ pub mod Follow
 pub mod Searches
 pub mod Growth
 pub mod Passes
+pub mod Copies

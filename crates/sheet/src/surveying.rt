@@ -6,18 +6,18 @@ use crate::sheet::Sheet;
 use fault::Fault;
 use mesh::Room;
 use place::Place;
-use survey::{Counts, survey};
+use survey::{Counts, survey_indexed};
 
 // The counts of a sheet that is a closed mesh, or the first fault of its bytes and its surface.
 pub fn survey_sheet<P: Place>(bytes: &[u8]) -> Result<Counts, Fault>
     ensures { result ≡ sheet_surveyed P.Place.kind bytes.now }
 {
-    survey(&Sheet::<P>::open(bytes)?)
+    survey_indexed(&Sheet::<P>::open(bytes)?)
 }
 
 // The same for a store with this room.
 pub fn survey_sheet_within<P: Place>(bytes: &[u8], room: Room) -> Result<Counts, Fault>
     ensures { result ≡ sheet_surveyed_within P.Place.kind room.vertices room.triangles bytes.now }
 {
-    survey(&Sheet::<P>::open_within(bytes, room)?)
+    survey_indexed(&Sheet::<P>::open_within(bytes, room)?)
 }

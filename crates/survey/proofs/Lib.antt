@@ -5,3 +5,4 @@ pub mod Noting
 pub mod Walked
 pub mod Exact
 pub mod Spots
+pub mod Index

@@ -9,4 +9,4 @@ returns-in_err-open_within g c = search (rules, surveyed_err)
 
 pub returns : goal.returns
 unfolding sheet_surveyed_within
-returns g c = surveyed_ok g.P.Place.kind _ _ _ _ c.in_ok-open_within.ensures c.survey.ensures
+returns g c = surveyed_ok g.P.Place.kind _ _ _ _ c.in_ok-open_within.ensures c.survey_indexed.ensures
