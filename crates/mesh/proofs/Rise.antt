@@ -6,7 +6,7 @@ use Rattle.mesh.specs.Lists.{Mem, now, later, Apart, no_one, one_more}
 use Rattle.mesh.specs.Triangles.{Tri}
 use Rattle.mesh.specs.Sides.{Side, side, back, sides}
 use Rattle.mesh.specs.Edges.{up, before, insert, rising, two_way, edges, Lower, Ascending, EdgesListed}
-use Rattle.mesh.proofs.Members.{mem_cases, kept_mem, mem_kept, mem_left, mem_right, mem_split, mem_eq, mem_map, map_mem}
+use Rattle.mesh.proofs.Members.{Within, mem_cases, kept_mem, mem_kept, mem_left, mem_right, mem_split, mem_eq, mem_map, map_mem}
 
 before_lower : (s t : Side) → before s t ≡ true → Lower s t
 before_lower (side i j) (side k l) e =
@@ -73,21 +73,37 @@ insert_ascends t (r ∷ ss) a = go (before t r) refl (before r t) refl (insert_a
         lower_at e h = rw e at h
     go false p false q i = a
 
-rising_ascends : (ss : List Side) → Ascending (rising ss)
+pub rising_ascends : (ss : List Side) → Ascending (rising ss)
 rising_ascends [] = tt
 rising_ascends (s ∷ ss) = insert_ascends s (rising ss) (rising_ascends ss)
 
-mem_rising : {s : Side} {ss : List Side} → Mem s ss → Mem s (rising ss)
+pub mem_rising : {s : Side} {ss : List Side} → Mem s ss → Mem s (rising ss)
 mem_rising {s} (now {xs = ss}) = mem_insert s (rising ss) (inl refl)
 mem_rising (later {y = t} {xs = ss} m) = mem_insert t (rising ss) (inr (mem_rising m))
 
-rising_mem : {s : Side} (ss : List Side) → Mem s (rising ss) → Mem s ss
+pub rising_mem : {s : Side} (ss : List Side) → Mem s (rising ss) → Mem s ss
 rising_mem [] m = elim m [ ]
 rising_mem {s} (t ∷ ss) m = ⊎_elim (λ (e : s ≡ t). mem_eq e now) (λ k. later (rising_mem ss k)) (insert_mem t (rising ss) m)
 
 pub ascending_apart : (ss : List Side) → Ascending ss → Apart ss
 ascending_apart [] a = no_one
 ascending_apart (s ∷ ss) a = one_more (λ m. never_lower s (a.0 s m)) (ascending_apart ss a.1)
+
+-- rising lists with the same members are the same list
+pub ascending_same : (ss ts : List Side) → Ascending ss → Ascending ts → Within ss ts → Within ts ss → ss ≡ ts
+ascending_same [] [] a b f g = refl
+ascending_same [] (t ∷ ts) a b f g = elim (g t now) [ ]
+ascending_same (s ∷ ss) [] a b f g = elim (f s now) [ ]
+ascending_same (s ∷ ss) (t ∷ ts) a b f g =
+    let e = first_same s t ss ts a b (f s now) (g t now) in
+    let f' : Within ss ts = λ z m. past t ts (λ i. never_lower s (a.0 s (mem_eq (e ∙ sym i) m))) (f z (later m)) in
+    let g' : Within ts ss = λ z m. past s ss (λ i. never_lower t (b.0 t (mem_eq (sym e ∙ sym i) m))) (g z (later m)) in
+    let r = ascending_same ss ts a.1 b.1 f' g' in cc
+  where
+    first_same : (s t : Side) (ss ts : List Side) → Ascending (s ∷ ss) → Ascending (t ∷ ts) → Mem s (t ∷ ts) → Mem t (s ∷ ss) → s ≡ t
+    first_same s t ss ts a b m n = ⊎_elim (λ e. e) (λ k. ⊎_elim (λ e. sym e) (λ l. absurd (never_lower s (lower_trans s t s (a.0 t l) (b.0 s k)))) (mem_cases n)) (mem_cases m)
+    past : {z : Side} (t : Side) (ts : List Side) → (z ≡ t → ⊥) → Mem z (t ∷ ts) → Mem z ts
+    past {z} t ts n m = ⊎_elim (λ (e : z ≡ t). absurd (n e)) (λ k. k) (mem_cases m)
 
 two_way_cases : (ss : List Side) (i j : ℕ) → Mem (side i j) (two_way ss) → Mem (side i j) ss ⊎ Mem (side j i) ss
 two_way_cases ss i j m = ⊎_elim (λ k. inl k) (λ k. let r = map_mem back ss k in inr (mem_eq (ap back r.2) (turn_back r.0 r.1))) (mem_split ss m)

@@ -38,7 +38,7 @@ impl Answers {
         self.push(number.unwrap_or(u32::MAX))
     }
 
-    // The questions of vertices that are there, and of some that are not.
+    // The questions of vertices and edges that are there, and of some that are not.
     fn ask<S: ReadingSurface>(&mut self, job: &Running, store: &S) -> Result<(), AllocError> {
         self.push(job.vertex_count(store))?;
         self.push(job.triangle_count(store))?;
@@ -48,6 +48,11 @@ impl Answers {
             for v in 0..5 {
                 self.push_found(job.side(store, u, v))?;
             }
+        }
+        for number in 0..8 {
+            let edge = job.edge(store, number);
+            self.push_found(edge.map(|e| e.low))?;
+            self.push_found(edge.map(|e| e.high))?;
         }
         Ok(())
     }

@@ -5,14 +5,17 @@ ghost use Rattle.std.specs.Option.{option_map};
 ghost use Rattle.std.specs.List.{slice_get};
 ghost use Rattle.mesh.specs.Triangles.{tri_of};
 ghost use Rattle.mesh.specs.Sides.{side_of};
+ghost use Rattle.mesh.specs.Edges.{edges};
 ghost use Rattle.mesh.specs.Meshes.{vertex_total, triangle_total, place_at, parent_at};
 ghost use Rattle.survey.specs.Survey.{surveyed};
+ghost use Rattle.edges.specs.Pairs.{pair_of};
 ghost use Rattle.sheet.specs.ReadBack.{BackIf};
 ghost use Rattle.sheet.specs.Writing.{sheet_written, sheet_after};
 ghost use Rattle.runs.specs.Calls.{ancestor};
 
 use crate::following::follow_back;
 use crate::running::Running;
+use edges::Edge;
 use fault::Fault;
 use mesh::{ReadingSurface, Triangle};
 use place::Place;
@@ -55,6 +58,13 @@ impl Running {
         ensures { result ≡ side_of (S.mesh store.now).triangles u v }
     {
         store.side(u, v)
+    }
+
+    // The edge with this number, in the rising order of pairs.
+    pub fn edge<S: ReadingSurface>(&self, store: &S, number: u32) -> Option<Edge>
+        ensures { option_map pair_of result ≡ slice_get (edges (S.mesh store.now).triangles) number }
+    {
+        edges::edge_at(store, number)
     }
 
     pub fn survey<S: ReadingSurface>(&self, store: &S) -> Result<Counts, Fault>
