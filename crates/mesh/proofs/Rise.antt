@@ -102,6 +102,7 @@ ascending_same (s ∷ ss) (t ∷ ts) a b f g =
   where
     first_same : (s t : Side) (ss ts : List Side) → Ascending (s ∷ ss) → Ascending (t ∷ ts) → Mem s (t ∷ ts) → Mem t (s ∷ ss) → s ≡ t
     first_same s t ss ts a b m n = ⊎_elim (λ e. e) (λ k. ⊎_elim (λ e. sym e) (λ l. absurd (never_lower s (lower_trans s t s (a.0 t l) (b.0 s k)))) (mem_cases n)) (mem_cases m)
+
     past : {z : Side} (t : Side) (ts : List Side) → (z ≡ t → ⊥) → Mem z (t ∷ ts) → Mem z ts
     past {z} t ts n m = ⊎_elim (λ (e : z ≡ t). absurd (n e)) (λ k. k) (mem_cases m)
 
