@@ -72,7 +72,7 @@ two_each f [] h = omega arith
 two_each f (k ∷ ks) h = let a = h k now in let b = two_each f ks (λ i l. h i (later l)) in omega arith
 
 -- the trees are half the marked edges at most
-half_trees : (V : ℕ) (ts : List Tri) (bs : List Bool) (n : ℕ) → Closed V ts → forest_fault V ts bs n ≡ None → 2 * length (trees V (marked_of ts bs)) ≤ length (marked_of ts bs)
+pub half_trees : (V : ℕ) (ts : List Tri) (bs : List Bool) (n : ℕ) → Closed V ts → forest_fault V ts bs n ≡ None → 2 * length (trees V (marked_of ts bs)) ≤ length (marked_of ts bs)
 half_trees V ts bs n closed e =
     let p = planted V ts bs n e in
     let ms = marked_of ts bs in

@@ -1,0 +1,14 @@
+pub mod Calls
+pub mod Clashes
+pub mod Corners
+pub mod Filling
+pub mod Joining
+pub mod Loops
+pub mod Marking
+pub mod Places
+pub mod Planting
+pub mod Sewing
+pub mod Stages
+pub mod Tallies
+pub mod Telling
+pub mod Writing
