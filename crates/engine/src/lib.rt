@@ -17,6 +17,8 @@ mod polygons;
 mod record_checks;
 mod sewing;
 mod splitting;
+#[cfg(test)]
+mod tests;
 mod told;
 mod trees;
 mod triples;
