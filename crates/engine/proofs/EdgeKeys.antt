@@ -77,7 +77,7 @@ all_listed ts n keys i = let c = i.count in (omega arith, sym (append-nil (key_s
 
 -- ---- lists of numbers without repetition
 
-at_mem : (ks : List ℕ) (i : ℕ) → i < length ks → Mem (get_or ks i 0) ks
+pub at_mem : (ks : List ℕ) (i : ℕ) → i < length ks → Mem (get_or ks i 0) ks
 at_mem [] i l = absurd (omega arith)
 at_mem (k ∷ ks) zero l = now
 at_mem (k ∷ ks) (suc i) l = later (at_mem ks i (omega arith))

@@ -1,5 +1,5 @@
 -- The positions of a forest: how many there are, where they start, that the loops walk them, and what is made of them.
-use Rattle.std.proofs.Common.{◌≡◌, ℕ, suc, ◌+◌, ◌-◌, ◌*◌, ◌/◌, ◌<◌, ◌≤◌, Bool, true, false, cond, List, [], ◌∷◌, map, length, get_or, filter, inl, inr, sym, refl, ap, ◌∙◌, subst, ⊎_elim, arith, length-append}
+use Rattle.std.proofs.Common.{◌≡◌, ℕ, suc, ◌+◌, ◌-◌, ◌*◌, ◌/◌, ◌<◌, ◌≤◌, Bool, true, false, cond, List, [], ◌∷◌, map, length, get_or, inl, inr, sym, refl, ap, ◌∙◌, subst, ⊎_elim, arith, length-append}
 use Rattle.std.specs.List.{sum as std_sum, sum_by}
 use Rattle.std.proofs.lemmas.List.{length-map}
 use Rattle.std.proofs.lemmas.List.Sums.{sum_by-cons}
@@ -29,15 +29,7 @@ use Rattle.forest.proofs.Tables.{filled_polygons, renumbered_all, unclosed_first
 use Rattle.forest.proofs.Turning.{good_closed}
 use Rattle.engine.specs.Marking.{marked}
 use Rattle.engine.specs.Sewing.{marked_in, Sound, Standing}
-use Rattle.engine.proofs.Tallies.{marked_le}
-
-filter_le : (p : ℕ → Bool) (xs : List ℕ) → length (filter p xs) ≤ length xs
-filter_le p [] = omega arith
-filter_le p (x ∷ xs) = go (p x) (filter_le p xs)
-  where
-    go : (b : Bool) → length (filter p xs) ≤ length xs → length (cond b (x ∷ filter p xs) (filter p xs)) ≤ suc (length xs)
-    go true h = omega arith
-    go false h = omega arith
+use Rattle.engine.proofs.Tallies.{filter_le, marked_le}
 
 numbers_long : (seen : List ℕ) (n : ℕ) (ss : List Side) → length (numbers seen n ss) ≡ length ss
 numbers_long seen n [] = refl

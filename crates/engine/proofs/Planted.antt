@@ -24,6 +24,7 @@ use Rattle.runs.specs.Parts.{record_marks}
 use Rattle.runs.proofs.Parts.{marked_counted}
 use Rattle.engine.specs.Joining.{EndsBelow}
 use Rattle.engine.specs.Marking.{marked}
+use Rattle.engine.proofs.EdgeKeys.{at_mem}
 use Rattle.engine.proofs.Tallies.{marked_le}
 
 -- ---- the marks
@@ -43,11 +44,6 @@ pub all_climbing : (n : ℕ) (ks : List ℕ) → length ks ≤ n → Climbing (t
 all_climbing n ks h c = subst Climbing (take_all n ks h) c
 
 -- ---- a closed mesh
-
-at_mem : (ks : List ℕ) (i : ℕ) → i < length ks → Mem (get_or ks i 0) ks
-at_mem [] i l = absurd (omega arith)
-at_mem (k ∷ ks) zero l = now
-at_mem (k ∷ ks) (suc i) l = later (at_mem ks i (omega arith))
 
 -- a list is no longer than a sum over it of numbers that are one at least
 one_each : (f : ℕ → ℕ) (ks : List ℕ) → ((k : ℕ) → Mem k ks → 0 < f k) → length ks ≤ sum (map f ks)

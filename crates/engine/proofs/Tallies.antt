@@ -31,7 +31,7 @@ module _ (ks ns : List ℕ) (e : ℕ) (h : e < length ks) (p : length ns ≡ len
 pub left_none : (ks ns : List ℕ) (e : ℕ) → length ks ≤ e → marked (drop e ks) (drop e ns) ≡ []
 left_none ks ns e h = ap (λ xs. marked xs (drop e ns)) (drop_all e ks h)
 
-pub filter_le : (p : Side → Bool) (xs : List Side) → length (filter p xs) ≤ length xs
+pub filter_le : {A : Type 0} (p : A → Bool) (xs : List A) → length (filter p xs) ≤ length xs
 filter_le p [] = omega arith
 filter_le p (x ∷ xs) = go (p x) (filter_le p xs)
   where

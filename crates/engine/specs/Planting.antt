@@ -21,5 +21,5 @@ abbrev pub trees_fault : ℕ → List ℕ → List ℕ → Option Fault
 trees_fault V ks ns = or_else (loop_fault ks ns) (single_fault V ks ns)
 
 -- the number n of codes is not twice the marked edges less twice the trees, f and k of them
-abbrev pub codes_fault : ℕ → ℕ → ℕ → Option Fault
-codes_fault f k n = cond (n == 2 * (f - k)) None (Some CodeCount)
+abbrev pub code_count_fault : ℕ → ℕ → ℕ → Option Fault
+code_count_fault f k n = cond (n == 2 * (f - k)) None (Some CodeCount)

@@ -24,8 +24,8 @@ pub record Planted (V : ℕ) (ts : List Tri) (bs : List Bool) (keys marks around
   pub low_roots : (i : ℕ) → i < length roots → slice_index roots i < 2 ^ 28
   pub mirrors_told : flags_of mirrors ≡ map (mirrored ts (marked_of ts bs)) (trees V (marked_of ts bs))
 
--- The tables hold the positions of the trees of the marked edges ms, with their numbers, the parents of the new vertices (and
--- more behind them), the old triangles with their new corners, and the triangles of the polygons, which the codes cs give.
+-- The tables hold the positions of the trees of the marked edges ms, with their numbers, the old triangles with their new
+-- corners, and the triangles of the polygons, which the codes cs give.
 pub record Sewn (V : ℕ) (ts : List Tri) (ms : List Side) (cs : List Code) (positions numbers corners added : List ℕ) : Type 0 where
   pub positions_told : key_sides positions ≡ all_positions V ts ms
   pub numbers_told : numbers ≡ all_numbers V ts ms

@@ -13,7 +13,7 @@ ghost use Rattle.runs.specs.Parts.{record_marks};
 ghost use Rattle.runs.specs.Calls.{fault_in};
 ghost use Rattle.engine.specs.Joining.{EndsBelow};
 ghost use Rattle.engine.specs.Marking.{marked, Upward};
-ghost use Rattle.engine.specs.Planting.{codes_fault, trees_fault};
+ghost use Rattle.engine.specs.Planting.{code_count_fault, trees_fault};
 ghost use Rattle.engine.specs.Stages.{Planted};
 
 use crate::edges::list_edges;
@@ -112,7 +112,7 @@ fn list_forest<'t>(
 fn check_codes(from: &Record, edges: u32, trees: u32) -> Result<(), Fault>
     requires few { trees ≤ edges }
     requires small { edges < 2 ^ 31 }
-    ensures { fault_in result ≡ codes_fault edges trees (code_count from.now.bytes.now) }
+    ensures { fault_in result ≡ code_count_fault edges trees (code_count from.now.bytes.now) }
 {
     if from.code_count() != 2 * (edges - trees) {
         return Err(Fault::CodeCount);
