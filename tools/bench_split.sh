@@ -2,7 +2,7 @@
 # Proves and builds the program split_bench, runs it on tori of 1,000 to 8,000 vertices with a record that doubles each, and
 # prints a table: seconds of the whole run, and with valgrind the instructions of the split alone, which are those of the run
 # less those of a run whose record is missing (it surveys the store, and refuses the record by 20); behind them by how much
-# they grow from one size to the next.
+# they grow from one size to the next. It needs valgrind.
 set -euo pipefail
 cd "$(dirname "$0")/.."
 (cd crates/split_bench && rt run < stdin) > /dev/null
