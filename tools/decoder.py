@@ -16,11 +16,11 @@ documents step by step:
 Every call that can refuse raises Refusal and then has changed nothing but the
 work table.  As a program it behaves like `levels`: it reads an input from
 standard input and prints the lines.  With --table the input is a table of cases
-as generate_cases.py writes it.
+as generate_cases.py writes it, and the lines are those of the program conformance.
 """
+import collections
 import struct
 import sys
-import zlib
 
 MAX_VERTICES = 16384
 MAX_TRIANGLES = 32768
@@ -167,6 +167,17 @@ class Store:
 
     def lists(self):
         return list(self.places), list(self.parents), list(self.triangles)
+
+    def replace_corner(self, t, k, v):
+        """Corner k of triangle t becomes v; says whether the store does that."""
+        if t >= len(self.triangles) or k > 2 or v >= len(self.places):
+            return False
+        corners = list(self.triangles[t])
+        corners[k] = v
+        if len(set(corners)) < 3:
+            return False
+        self.triangles[t] = tuple(corners)
+        return True
 
 
 def sides(triangle):
@@ -718,35 +729,103 @@ def levels(data):
     return "\n".join(lines) + "\n"
 
 
+# ---------------------------------------------------------------- the program conformance
+
+def word_item(*numbers):
+    """An item of four-byte numbers, its length field included."""
+    return struct.pack(">%dI" % (len(numbers) + 1), 4 * len(numbers), *numbers)
+
+
+def outcome_item(call, *arguments):
+    """Makes a call, and gives what it answers as an item of a table, and as the end of a line."""
+    try:
+        numbers = call(*arguments)
+    except Refusal as refusal:
+        numbers = refusal.number, refusal.layer, refusal.spot
+        return word_item(*numbers), "REFUSED", numbers
+    return word_item(*numbers[:5]), "SPLIT", numbers[:5]
+
+
+def mesh_items(store):
+    """The sheet of a store, and behind it its parents."""
+    return sheet_bytes(store.kind, store.places, store.triangles) + word_item(*store.parents)
+
+
+class Table:
+    """A table of cases that is read item by item; its form is told in generate_cases.py."""
+
+    def __init__(self, data):
+        self.data, self.at = data, 0
+
+    def item(self):
+        size = 4 + number_at(self.data, self.at)
+        item = self.data[self.at:self.at + size]
+        assert len(item) == size
+        self.at += size
+        return item
+
+    def numbers(self):
+        item = self.item()
+        return struct.unpack(">%dI" % (len(item) // 4 - 1), item[4:])
+
+    def mesh(self):
+        return self.item() + self.item()
+
+    def items(self):
+        """All items that are left."""
+        while self.at < len(self.data):
+            yield self.item()
+
+
+def play_case(table, case, store_name, counts):
+    """The lines of a case."""
+    kind_byte, records, vertex_capacity, triangle_capacity = table.numbers()
+    stores = [Store(KINDS[kind_byte], vertex_capacity, triangle_capacity) for _ in range(2)]
+    meshes, job, lines = [table.mesh(), table.mesh()], None, ["CASE %d %s" % (case, store_name)]
+    for store, mesh in reversed(list(zip(stores, meshes))):
+        try:
+            job = base_call(store, Table(mesh).item())
+        except Refusal as refusal:
+            job, line = None, refusal.line(0)
+    if job is None:
+        assert records == 0
+        return lines + [line, "TOTAL 0 0 0"]
+    lines.append("BASE %d %d %d %s" % (job.counts() + (verdict(stores[0], meshes[0]),)))
+    for index in range(1, records + 1):
+        number, work_length, *change = table.numbers()
+        record, outcome = table.item(), table.item()
+        work = [7] * work_length
+        stores[number].replace_corner(*change)
+        answer, word, numbers = outcome_item(split_call, job, stores[number], record, work)
+        assert not any(work)
+        if word == "SPLIT" or change[1] < 3:
+            meshes[number] = table.mesh()
+        said = verdict(stores[number], meshes[number]) if answer == outcome else "DIFFERS IN ITS ANSWER"
+        lines.append(" ".join([word, str(index), *map(str, numbers), said]))
+        counts[word if word == "SPLIT" else numbers[0]] += 1
+        counts["differing"] += said != "SAME"
+    lines.append("TOTAL %d %d %d" % (job.records, job.forest_edges, job.trees))
+    return lines
+
+
+def verdict(store, mesh):
+    """Whether the store's sheet and parents are these."""
+    return "SAME" if mesh_items(store) == mesh else "DIFFERS"
+
+
 def table(data):
-    """What has to come out of a table of cases; its form is told in generate_cases.py."""
-    lines, at, case = [], 0, 0
+    """What the program conformance has to print for a table of cases."""
+    lines, at, case, counts = [], 0, 0, collections.Counter()
     while at < len(data):
-        size, kind_byte, count, vertex_capacity, triangle_capacity = struct.unpack_from(">5I", data, at)
-        assert size == 16
-        at += 20
-        store = Store(KINDS[kind_byte], vertex_capacity, triangle_capacity)
-        job = None
-        lines.append("CASE %d" % case)
-        case += 1
-        for index in range(count):
-            item = next_item(data, at)
-            at += len(item)
-            try:
-                if index == 0:
-                    job = base_call(store, item)
-                    lines.append("BASE %d %d %d" % job.counts())
-                elif job is not None:
-                    outcome = split_call(job, store, item)
-                    lines.append("SPLIT %d %d %d %d %d %d" % ((index,) + outcome[:5]))
-                    sheet = sheet_bytes(store.kind, store.places, store.triangles)
-                    parents = struct.pack(">%dI" % len(store.parents), *store.parents)
-                    lines.append("CRC %d %d %d" % (index, zlib.crc32(sheet), zlib.crc32(parents)))
-            except Refusal as refusal:
-                lines.append(refusal.line(index))
-        total = (job.records, job.forest_edges, job.trees) if job is not None else (0, 0, 0)
-        lines.append("TOTAL %d %d %d" % total)
-    lines.append("%d cases" % case)
+        for store_name in ("LIST", "CHAIN"):
+            reader = Table(data)
+            reader.at = at
+            lines += play_case(reader, case, store_name, counts)
+        at, case = reader.at, case + 1
+    lines.append("CASES %d" % case)
+    lines.append("SPLITS %d" % counts["SPLIT"])
+    lines += ["REFUSALS %d: %d" % (number, counts[number]) for number in range(1, 35) if counts[number]]
+    lines.append("DIFFERING %d" % counts["differing"])
     return "\n".join(lines) + "\n"
 
 

@@ -1,39 +1,50 @@
 #!/usr/bin/env python3
 """Writes a table of splits, and what has to come out of each.
 
-    tests/split_cases.bin    the cases: for each a head, a sheet, and records
-    tests/split_cases.txt    the expected lines
-    tests/split_cases.json   what the table can't hold: names of the cases, inputs of `levels` that
+    tests/conformance.bin    the cases: for each a head, a sheet, and records with what must come out
+    tests/conformance.txt    what the program `conformance` has to print
+    tests/conformance.json   what the table can't hold: names of the cases, inputs of `levels` that
                              end in the middle of an item, faults of a caller, the layout call, the
                              record writer, sums of float numbers
 
-The outcomes are those of decoder.py, which was written from docs/ alone. Everything is made from
-fixed seeds, so a second run gives the same bytes.
+The first two are also written as `stdin` and `stdout` of crates/conformance. The outcomes are those
+of decoder.py, which was written from docs/ alone. Everything is made from fixed seeds, so a second
+run gives the same bytes.
 
 The .bin file is a row of items in the framing of `levels`: four bytes, big-endian, holding n, then
-n bytes; no item has more than 8,192 bytes. A case is a head item, the sheet, and the records. The
-head is needed because a sheet and a record can't be told apart by their bytes. It has n = 16 and
-holds four numbers of four bytes each:
+n bytes; no item has more than 65,536 bytes, its length field included. An **item of numbers** holds
+numbers of four bytes each. A **mesh** is two items: a sheet, and the parents of its vertices as an
+item of numbers. A case is
 
-    kind byte of the store, number of items that follow in this case (the sheet is one of them),
-    vertex capacity, triangle capacity
+    a head         numbers: kind byte of the stores, how many records there are, vertex capacity,
+                   triangle capacity
+    the base       the mesh of the job's store
+    another base   the mesh of a second store; one without vertices, which is no base, leaves it empty
+    the records    of each:
+        an order   numbers: the store that the call is given, 0 the job's own or 1 the second; the length
+                   of the work table; and the triangle, corner and vertex of a replacement that is made
+                   in that store before the call (corner 3, which no triangle has, for none)
+        a record
+        an answer  numbers: V E T F K if the record is accepted, number, layer and spot if it is refused
+        a mesh     that the store then holds, if the record is accepted or the order's corner isn't 3;
+                   else the store holds what it held
 
-Kind 1 with the capacities 256 and 512 is what `levels` works with: without its head, such a case is
-an input of `levels`, and its lines without `CASE` and `CRC` are the output. These cases come first.
+A base that is refused has an empty item for its parents, and no records behind it.
 
-The lines of a case, numbers decimal with one space between:
+What has to be printed, numbers decimal with one space between. Each case is played twice:
 
-    CASE c                   c counts from 0
-    BASE V E T               as `levels` prints them
-    SPLIT i V E T F K
-    CRC i s p                behind each SPLIT: the CRC-32 (that of zlib) of the sheet written from
-                             the store after it, and of the store's parents in their order, each as
-                             four bytes, big-endian
-    REFUSED i n l s
-    TOTAL r f k              the last line of the case; if the base is refused, the records of the
-                             case are passed over
+    CASE c LIST              c counts from 0; then the same once more with CASE c CHAIN
+    BASE V E T SAME          as `levels` prints them, but for the last word, which says that the store's
+    SPLIT i V E T F K SAME   answer, sheet and parents are those of the table; or it says what differs
+    REFUSED i n l s SAME     (no last word where the base is refused)
+    TOTAL r f k              the last line of the play
 
-The last line of the file is `N cases`.
+and at the end, of all plays together:
+
+    CASES n
+    SPLITS n                 accepted records
+    REFUSALS k: n            for each number that records are refused by
+    DIFFERING n              records whose last word isn't SAME
 """
 import collections
 import itertools
@@ -50,6 +61,8 @@ from decoder import Float, Grid, Job, Refusal, Store
 COUNT = collections.Counter()          # how often each refusal and each feature occurs
 
 LEVELS = (decoder.LEVELS_VERTICES, decoder.LEVELS_TRIANGLES)
+MOST_BYTES = 65536                     # of an item of the table
+NO_CHANGE = (0, 3, 0)                  # a replacement of no corner
 
 
 def refused(call, *arguments):
@@ -88,6 +101,18 @@ def bipyramid(n):
     """Two hubs, 0 and 1, each joined to every vertex of a cycle of n vertices."""
     ring = [(2 + i, 2 + (i + 1) % n) for i in range(n)]
     return n + 2, [(0, x, y) for x, y in ring] + [(1, y, x) for x, y in ring]
+
+
+def sphere(rounds):
+    """The icosahedron, each of its triangles cut into four, so many times over."""
+    count, triangles = ICOSAHEDRON
+    for _ in range(rounds):
+        middle, finer = {}, []
+        for a, b, c in triangles:
+            d, e, f = (middle.setdefault(pair(x, y), count + len(middle)) for x, y in ((a, b), (b, c), (c, a)))
+            finer += [(a, d, f), (d, b, e), (f, e, c), (d, e, f)]
+        count, triangles = count + len(middle), finer
+    return count, triangles
 
 
 def bodies(*meshes):
@@ -256,7 +281,20 @@ def path(rng, edges, limit, inside=None):
     return [int(e in chosen) for e in range(len(edges))]
 
 
-def pick_marks(rng, count, edges, limit, style):
+def again(rng, count, edges, limit, first):
+    """Marks of a forest of edges that end in vertices from `first` on, those that splits have made."""
+    young = [e for e, (_, j) in enumerate(edges) if j >= first]
+    if not young:
+        return grow_forest(rng, count, edges, limit)
+    marks = [0] * len(edges)
+    for e, mark in zip(young, grow_forest(rng, count, [edges[e] for e in young], limit, most=rng.randint(2, 12))):
+        marks[e] = mark
+    return marks
+
+
+def pick_marks(rng, count, edges, limit, style, first=0):
+    if style == "again":
+        return again(rng, count, edges, limit, first)
     if style == "pair":
         return grow_forest(rng, count, edges, 1)
     if style == "pairs":
@@ -529,7 +567,7 @@ def check_accepted(play, before, data, outcome):
     assert all(len(tree.numbers) == len(set(tree.numbers)) == 2 * tree.size for tree in forest)
 
     # Tree by tree, with marks by the pairs of the old mesh, gives the same.
-    if trees > 1:
+    if 1 < trees and trees * old_t < 20000:
         other = Store(kind, store.vertex_capacity, store.triangle_capacity)
         other.places, other.parents, other.triangles = (list(x) for x in before)
         job = Job(old_v, old_t)
@@ -546,17 +584,24 @@ def check_accepted(play, before, data, outcome):
 # ---------------------------------------------------------------- cases
 
 class Play:
-    """A case in the making: items are applied as they are added."""
+    """A case in the making: items are applied as they are added.
 
-    def __init__(self, name, mesh, kind=Grid, capacities=LEVELS, places=None, rng=None, sheet=None, tags=()):
+    items      the sheet and the records, as `levels` would be given them
+    groups     of each record order, record, answer and mesh, as the table has them
+    lines      what has to be printed of it, but for the last words and the line CASE
+    """
+
+    def __init__(self, name, mesh, kind=Grid, capacities=LEVELS, places=None, rng=None, sheet=None, tags=(),
+                 other=None):
         self.name, self.tags = name, tags
         self.rng = rng or random.Random(name)
         self.kind, self.capacities = kind, capacities
-        self.store, self.job = Store(kind, *capacities), None
+        self.store, self.other, self.job = Store(kind, *capacities), Store(kind, *capacities), None
         if sheet is None:
             places = places or some_places(self.rng, kind, mesh[0])
             sheet = decoder.sheet_bytes(kind, places, mesh[1])
-        self.items, self.lines, self.depth = [sheet], [], 0
+        self.items, self.groups, self.lines, self.depth = [sheet], [], [], 0
+        self.bases = sheet + decoder.word_item() + decoder.mesh_items(self.other)
         try:
             self.job = decoder.base_call(self.store, sheet)
         except Refusal as refusal:
@@ -567,6 +612,12 @@ class Play:
         v, e, t = self.job.counts()
         self.lines.append("BASE %d %d %d" % (v, e, t))
         self.base, self.euler = list(self.store.triangles), v - e + t
+        self.base_edges = set(self.edges())
+        assert decoder.mesh_items(self.store).startswith(sheet)
+        if other is not None:
+            places = some_places(self.rng, kind, other[0])
+            decoder.base_call(self.other, decoder.sheet_bytes(kind, places, other[1]))
+        self.bases = decoder.mesh_items(self.store) + decoder.mesh_items(self.other)
 
     def edges(self):
         return decoder.edge_list(self.store.triangles)
@@ -576,37 +627,61 @@ class Play:
         return min(self.capacities[0] - len(self.store.places),
                    (self.capacities[1] - len(self.store.triangles)) // 2)
 
-    def add(self, data, expect=None, spot=None):
-        """Applies a record. `expect` is 0 for one that must be accepted, or a refusal's number."""
-        assert len(data) <= decoder.LEVELS_ITEM
+    def is_for_levels(self):
+        """Whether the items are an input of `levels`, which prints the lines."""
+        return (self.kind is Grid and self.capacities == LEVELS
+                and all(len(item) <= decoder.LEVELS_ITEM for item in self.items)
+                and all(group.startswith(self.plain_order()) for group in self.groups))
+
+    def plain_order(self):
+        return decoder.word_item(0, decoder.work_needed(self.store), *NO_CHANGE)
+
+    def add(self, data, expect=None, spot=None, second=False, work=None, change=NO_CHANGE):
+        """Applies a record. `expect` is 0 for one that must be accepted, or a refusal's number.
+
+        It goes to the second store if this is said, with a work table of the length that is needed
+        or of the one that is given, after a corner was replaced.
+        """
         assert decoder.number_at(data, 0) == len(data) - 4
         self.items.append(data)
         index = len(self.items) - 1
         if self.job is None:
             return
-        before, job_before = self.store.lists(), dict(self.job.__dict__)
-        work = [7] * (decoder.work_needed(self.store) + 1)
+        store = self.other if second else self.store
+        special = second or work is not None or change != NO_CHANGE
+        if work is None:
+            work = decoder.work_needed(store)
+        COUNT["corners replaced"] += store.replace_corner(*change)
+        group = [decoder.word_item(second, work, *change), data]
+        before, job_before = store.lists(), dict(self.job.__dict__)
+        table = [7] * work
         try:
-            outcome = decoder.split_call(self.job, self.store, data, work)
+            outcome = decoder.split_call(self.job, store, data, table)
         except Refusal as refusal:
-            assert self.store.lists() == before and self.job.__dict__ == job_before
+            assert store.lists() == before and self.job.__dict__ == job_before
             assert expect in (None, refusal.number), (self.name, index, expect, refusal)
             assert spot in (None, refusal.spot), (self.name, index, spot, refusal)
-            assert refusal.number not in (1, 3, 4, 32)
+            assert refusal.number not in (1, 3, 4) or expect == refusal.number
+            assert refusal.number != 32
             if refusal.number == 33:
                 assert refusal.spot >= len(before[2])
             COUNT["refused by %d" % refusal.number] += 1
+            COUNT["refused as level 2 or deeper"] += self.depth > 0
             self.lines.append(refusal.line(index))
+            group.append(decoder.word_item(refusal.number, refusal.layer, refusal.spot))
+            if change[1] < 3:
+                group.append(decoder.mesh_items(store))
         else:
             assert expect in (None, 0), (self.name, index, expect)
+            assert not second
             check_accepted(self, before, data, outcome)
             self.depth += 1
             self.lines.append("SPLIT %d %d %d %d %d %d" % ((index,) + outcome[:5]))
-            sheet = decoder.sheet_bytes(self.kind, self.store.places, self.store.triangles)
-            parents = struct.pack(">%dI" % len(self.store.parents), *self.store.parents)
-            self.lines.append("CRC %d %d %d" % (index, zlib.crc32(sheet), zlib.crc32(parents)))
             self.count(before, outcome)
-        assert not any(work)
+            group += [decoder.word_item(*outcome[:5]), decoder.mesh_items(store)]
+        assert not any(table)
+        COUNT["records with an order of their own"] += special
+        self.groups.append(b"".join(group))
 
     def count(self, before, outcome):
         v, e, t, marked, trees, forest = outcome
@@ -630,6 +705,10 @@ class Play:
         COUNT["trees whose root is not the lowest vertex"] += sum(tree.root != tree.lowest for tree in forest)
         COUNT["trees with a vertex of 3 marked edges or more"] += sum(
             max(map(len, tree.links.values())) > 2 for tree in forest)
+        made = [e for tree in forest for e in tree.pairs if e not in self.base_edges]
+        COUNT["accepted that mark an edge made by an earlier record"] += bool(made)
+        COUNT["marked edges made by an earlier record"] += len(made)
+        COUNT["accepted on 500 vertices or more"] += len(before[0]) >= 500
         COUNT["largest tree"] = max(COUNT["largest tree"], max(tree.size for tree in forest))
         COUNT["most copies of one vertex"] = max(
             COUNT["most copies of one vertex"], max(len(x) for tree in forest for x in tree.links.values()))
@@ -674,7 +753,7 @@ class Play:
             if marks is None:
                 if limit < 1:
                     return None
-                mine = pick_marks(self.rng, count, edges, limit, style)
+                mine = pick_marks(self.rng, count, edges, limit, style, self.job.base_vertices)
             else:
                 mine = marks
             if not any(mine):
@@ -702,14 +781,20 @@ class Play:
             COUNT["cases of 4 levels or more"] += self.depth > 3
             COUNT["cases of 8 levels or more"] += self.depth > 7
             COUNT["most levels in a case"] = max(COUNT["most levels in a case"], self.depth)
-        if self.kind is Grid and self.capacities == LEVELS:
+        if self.is_for_levels():
             # The program levels, on this case's items, prints the same lines.
-            lines = [line for line in self.lines if not line.startswith("CRC")]
-            assert decoder.levels(b"".join(self.items)).splitlines() == lines
+            assert decoder.levels(b"".join(self.items)).splitlines() == self.lines
         return self
 
-    def head(self):
-        return struct.pack(">IIIII", 16, self.kind.kind_byte, len(self.items), *self.capacities)
+    def table_bytes(self):
+        """The case as it stands in the table."""
+        head = decoder.word_item(self.kind.kind_byte, len(self.groups), *self.capacities)
+        return head + self.bases + b"".join(self.groups)
+
+    def printed(self, case):
+        """What has to be printed of it, once for each store."""
+        lines = [line if line.startswith(("TOTAL", "REFUSED 0")) else line + " SAME" for line in self.lines]
+        return [line for name in ("LIST", "CHAIN") for line in ["CASE %d %s" % (case, name)] + lines]
 
 
 FOREST_STYLES = ["random", "pairs", "path", "star", "spanning", "pair"]
@@ -999,6 +1084,175 @@ def capacity_cases():
         again = Parts(Grid, [1, 0, 0, 1] + [0] * (len(play.edges()) - 4), [2, 0], [bytes(6)] * 4)
         play.add(again.make())
         yield play
+
+
+# ---- levels with refused records between them
+
+def next_damages(rng, play, parts):
+    """Damaged forms of the record that comes next, of all sorts: (number, spot, bytes)."""
+    sorts = [byte_damages, size_damages, code_damages, place_damages]
+    if len(play.edges()) < 400:
+        sorts += [forest_damages, forest_damages, together_damages]
+    for damage in rng.sample(sorts, 3):
+        counted = COUNT.copy()
+        some = list(damage(play, parts))
+        COUNT.clear()                          # what is counted there is of all forms, and few of them are taken
+        COUNT.update(counted)
+        yield from rng.sample(some, min(len(some), rng.randint(1, 3)))
+
+
+def levels_case(name, tag, mesh, kind, capacities, levels, styles, limit):
+    """Level after level; before each the record in damaged forms, behind it the same record once more."""
+    rng = random.Random(name)
+    play = Play(name, mixed(rng, mesh), kind, capacities, rng=rng, tags=(tag,))
+    for level in range(levels):
+        style = styles[level % len(styles)]
+        parts = play.parts(style=style, codes=rng.choice(CODE_STYLES + ["any"] * 3), steps=rng.choice(STEP_STYLES),
+                           limit=limit)
+        if parts is None:
+            continue
+        for number, spot, data in next_damages(rng, play, parts):
+            play.add(data, number, spot)
+        play.add(parts.make(), 0)
+        if rng.random() < 0.5:
+            play.add(parts.make())             # of the mesh that was; the edges are others now
+    return play
+
+
+def levels_cases():
+    small, large = (400, 800), (1400, 2800)
+    again_and_again = ["random", "again", "again", "pairs", "again", "star", "again", "path", "again", "spanning"]
+    yield levels_case("levels: sphere of 42", "sphere", sphere(1), Grid, LEVELS, 8, again_and_again, 16)
+    yield levels_case("levels: sphere of 42, floats", "sphere", sphere(1), Float, LEVELS, 6, again_and_again, 12)
+    yield levels_case("levels: sphere of 162", "sphere", sphere(2), Grid, small, 6, again_and_again, 30)
+    yield levels_case("levels: sphere of 162, inside out", "sphere", turned(sphere(2)), Float, small, 4,
+                      again_and_again, 30)
+    yield levels_case("levels: torus of 84", "torus", torus(7, 12), Grid, LEVELS, 8, again_and_again, 20)
+    yield levels_case("levels: torus of 60, floats", "torus", torus(6, 10), Float, LEVELS, 6, again_and_again, 16)
+    yield levels_case("levels: two handles", "two handles", double_torus(6, 7), Grid, LEVELS, 7, again_and_again, 20)
+    yield levels_case("levels: two handles, floats", "two handles", double_torus(4, 5), Float, LEVELS, 5,
+                      again_and_again, 12)
+    yield levels_case("levels: two triangles", "two triangles", PILLOW, Grid, LEVELS, 16,
+                      ["spanning", "again", "spanning", "star", "again"], 20)
+    yield levels_case("levels: two triangles, floats", "two triangles", PILLOW, Float, LEVELS, 12,
+                      ["spanning", "again", "path"], 12)
+    yield levels_case("levels: a body of each sort", "several bodies",
+                      bodies(sphere(1), torus(5, 6), turned(PILLOW), double_torus(4, 4), turned(bipyramid(20)), BLOCK),
+                      Grid, small, 6, again_and_again, 40)
+    yield levels_case("levels: bodies of two triangles, floats", "several bodies",
+                      bodies(*[PILLOW, turned(PILLOW)] * 10), Float, LEVELS, 6, ["spanning", "again", "pairs"], 30)
+    yield levels_case("levels: hub of 60, floats", "hub", bipyramid(60), Float, LEVELS, 5, ["star", "again", "path"], 20)
+    yield levels_case("levels: block", "block", BLOCK, Grid, LEVELS, 20, again_and_again, 8)
+    yield levels_case("levels: torus of 1,000", "torus", torus(25, 40), Grid, large, 4,
+                      ["pairs", "again", "random", "again"], 60)
+
+
+# ---- the hub, large
+
+def large_hub_cases():
+    def hub(n, name, kind=Grid):
+        return Play("hub of %d: %s" % (n, name), bipyramid(n), kind, (1000, 2000), tags=("hub", "large hub"))
+
+    play = hub(300, "all edges of one hub")
+    assert play.good(marks=star(play.rng, 302, play.edges(), 10 ** 6, centre=0), codes="zigzag", steps="small")
+    assert play.good(style="again", limit=60)
+    yield play
+
+    # The hub is split into hubs of some hundred triangles, and one of these again.
+    play = hub(400, "a star of three edges, and again")
+    for level in range(3):
+        hub_now = collections.Counter(x for t in play.store.triangles for x in t).most_common(1)[0][0]
+        marks = star(play.rng, len(play.store.places), play.edges(), 2, centre=hub_now)
+        parts = play.parts(marks=marks, codes="any", steps="small")
+        for number, spot, data in next_damages(play.rng, play, parts):
+            play.add(data, number, spot)
+        play.add(parts.make(), 0)
+    yield play
+
+    play = hub(250, "floats", Float)
+    assert play.good(marks=star(play.rng, 252, play.edges(), 120, centre=1), codes="middle")
+    assert play.good(style="again", limit=20)
+    yield play
+
+
+# ---- what a caller gets wrong: the work table, and the store that is handed over
+
+def not_closed(rng, store):
+    """A replacement of a corner by a vertex that isn't in the triangle: an open side comes of it."""
+    t, k = rng.randrange(len(store.triangles)), rng.randrange(3)
+    return t, k, rng.choice([v for v in range(len(store.places)) if v not in store.triangles[t]])
+
+
+def undone(store, change):
+    t, k, _ = change
+    return t, k, store.triangles[t][k]
+
+
+def caller_case(name, tag, mesh, kind, other):
+    """1, 3 and 4 between the levels. With `other` the second store has this mesh, else it is empty."""
+    rng = random.Random(name)
+    play = Play(name, mixed(rng, mesh), kind, rng=rng, tags=(tag,), other=other)
+    need, none, wrong = decoder.work_needed(play.store), bytes(4), 3 if other is None else 4
+    alike = other is not None and other[0] == mesh[0] and len(other[1]) == len(mesh[1])
+    for level in range(3):
+        good = play.parts(style=rng.choice(["random", "pairs"]), limit=6).make()
+        for work in (0, need - 1):
+            play.add(good, 1, 0, work=work)
+            play.add(none, 1, 0, work=work)
+        play.add(good, 1, 0, work=need - 1, second=True)
+        play.add(none, 20, 0, work=need)
+        if level > 0 or not alike:
+            play.add(good, wrong, 0, second=True)
+            play.add(none, wrong, 0, second=True)
+        else:
+            # With the job's V and T, the second store is as good as the job's own.
+            play.add(none, 20, 0, second=True)
+            play.add(Parts(kind, [1] * len(play.edges()), [], []).make(), 26, second=True)
+        change = not_closed(rng, play.store)
+        back = undone(play.store, change)
+        play.add(good, 3, 0, change=change)
+        play.add(none, 3, 0)
+        play.add(good, 1, 0, work=need - 1)
+        play.add(good, 1, 0, work=need - 1, change=back)
+        if other is not None:
+            change = not_closed(rng, play.other)
+            back = undone(play.other, change)
+            play.add(good, 3, 0, second=True, change=change)
+            play.add(none, wrong if level > 0 or not alike else 20, 0, second=True, change=back)
+        # Replacements that the store says no to, and one by the vertex that is there.
+        a, b, _ = play.store.triangles[0]
+        for change in ((len(play.store.triangles), 0, 0), (0, 0, len(play.store.places)), (0, 0, b), (0, 0, a)):
+            play.add(none, 20, 0, change=change)
+        play.add(good, 0, work=need + level)
+    return play
+
+
+def caller_cases():
+    yield caller_case("caller: block and nothing", "block", BLOCK, Grid, None)
+    yield caller_case("caller: torus and nothing, floats", "torus", torus(3, 4), Float, None)
+    yield caller_case("caller: V alike, T not", "torus", torus(3, 3), Grid, bipyramid(7))
+    yield caller_case("caller: T alike, V not", "torus", torus(3, 3), Grid, bipyramid(9))
+    yield caller_case("caller: the same base", "sphere", sphere(1), Grid, sphere(1))
+    yield caller_case("caller: the same base, floats", "two handles", double_torus(3, 3), Float, double_torus(3, 3))
+    yield caller_case("caller: V and T alike, another mesh", "icosahedron", ICOSAHEDRON, Grid, bipyramid(10))
+    yield caller_case("caller: several bodies", "several bodies", bodies(BLOCK, turned(PILLOW), BLOCK), Float, BLOCK)
+
+    # Corner by corner, the two triangles of the second body are moved to vertices of the first one: at last each
+    # side is there both ways, but one vertex has two rings and another none.
+    play = Play("caller: two rings", bodies(BLOCK, PILLOW), tags=("several bodies",))
+    good = play.parts(style="pairs", limit=2).make()
+    play.add(good, 3, 0, change=(4, 0, 0))
+    play.add(good, 3, 0, change=(5, 0, 0))
+    assert refused(decoder.survey, 7, play.store.triangles) == (19, 3, 0)
+    play.add(good, 3, 0, change=(4, 1, 1))
+    assert refused(decoder.survey, 7, play.store.triangles)[0] == 17
+    play.add(good, 3, 0, change=(5, 2, 1))
+    play.add(good, 3, 0, change=(4, 0, 4))
+    play.add(good, 3, 0, change=(5, 0, 4))
+    play.add(good, 3, 0, change=(4, 1, 5))
+    assert refused(decoder.survey, 7, play.store.triangles) == (18, 3, 4)
+    play.add(good, 0, change=(5, 2, 5))
+    yield play
 
 
 # ---- bases that are refused, with a record behind them
@@ -1311,7 +1565,7 @@ def place_damages(play, parts):
                 bad.displacements[p] = bads[p]
                 for q in lower:
                     bad.displacements[q] = bads[q]
-                COUNT["34 where a later position has a lower number"] += 1
+                COUNT["34 where a later position has a lower number, at least"] += 1
                 yield 34, news[p], bad.make()
                 break
         rows = sum((any_codes(rng, 2 * tree.size - 2) for tree in trees), [])
@@ -1379,7 +1633,7 @@ def together_damages(play, parts, always=None):
         bad = parts.copy()
         change(bad, second)
         change(bad, first)
-        COUNT["two faults at once"] += 1
+        COUNT["two faults at once, at least"] += 1
         yield first, None, bad.make()
 
 
@@ -1833,7 +2087,10 @@ def all_cases():
     yield from block_cases()
     yield from chain_cases(Grid, 3)
     yield from deep_cases()
+    yield from levels_cases()
     yield from hub_cases()
+    yield from large_hub_cases()
+    yield from caller_cases()
     yield from capacity_cases()
     yield from damage_cases(Grid, GRID_DAMAGES)
     yield from refused_bases()
@@ -1850,35 +2107,40 @@ def one_per_line(more):
 
 
 def main():
-    folder = pathlib.Path(__file__).resolve().parent.parent / "tests"
-    folder.mkdir(exist_ok=True)
+    folder = pathlib.Path(__file__).resolve().parent.parent
     check_documents()
     plays = [play.finish() for play in all_cases()]
-    plays.sort(key=lambda play: not (play.kind is Grid and play.capacities == LEVELS))
-    data, lines = b"", []
-    for case, play in enumerate(plays):
-        data += play.head() + b"".join(play.items)
-        lines.append("CASE %d" % case)
-        lines += play.lines
-    lines.append("%d cases" % len(plays))
+    plays.sort(key=lambda play: not play.is_for_levels())
+    data = b"".join(play.table_bytes() for play in plays)
+    lines = [line for case, play in enumerate(plays) for line in play.printed(case)]
+    lines += ["CASES %d" % len(plays), "SPLITS %d" % (2 * COUNT["accepted splits"])]
+    lines += ["REFUSALS %d: %d" % (n, 2 * COUNT["refused by %d" % n]) for n in range(1, 35) if COUNT["refused by %d" % n]]
+    lines.append("DIFFERING 0")
     more = {
         "names": [play.name for play in plays],
         "levels": [{"name": n, "input": folded(d), "output": decoder.levels(d)} for n, d in levels_inputs()],
         "calls": call_faults(), "layout": layout_outcomes(), "record_writer": writer_outcomes(),
         "float_sums": sum_outcomes(),
     }
-    files = {"split_cases.bin": data, "split_cases.txt": ("\n".join(lines) + "\n").encode(),
-             "split_cases.json": (one_per_line(more) + "\n").encode()}
-    assert decoder.table(data).encode() == files["split_cases.txt"]
-    for name, content in files.items():
-        (folder / name).write_bytes(content)
-        print("%-18s %7d bytes, CRC-32 %08x" % (name, len(content), zlib.crc32(content)))
-    COUNT["records"] = sum(len(play.items) - 1 for play in plays)
+    text = ("\n".join(lines) + "\n").encode()
+    # The decoder, given the finished table, prints the same once more.
+    second = decoder.table(data)
+    for mine, other in zip(text.decode().splitlines(), second.splitlines()):
+        assert mine == other, (mine, other)
+    assert second.encode() == text
+    assert max(map(len, decoder.Table(data).items())) <= MOST_BYTES
+    for name, content in ((folder / "tests" / "conformance.bin", data), (folder / "tests" / "conformance.txt", text),
+                          (folder / "tests" / "conformance.json", (one_per_line(more) + "\n").encode()),
+                          (folder / "crates" / "conformance" / "stdin", data),
+                          (folder / "crates" / "conformance" / "stdout", text)):
+        name.write_bytes(content)
+        print("%-28s %7d bytes, CRC-32 %08x" % (name.relative_to(folder), len(content), zlib.crc32(content)))
+    COUNT["records"] = sum(len(play.groups) for play in plays)
     COUNT["cases"] = len(plays)
-    COUNT["cases that are inputs of levels"] = sum(p.kind is Grid and p.capacities == LEVELS for p in plays)
+    COUNT["cases that are inputs of levels"] = sum(play.is_for_levels() for play in plays)
     for name in sorted(COUNT, key=lambda name: [int(x) if x.isdigit() else x for x in name.split()].__repr__()):
         print("%6d  %s" % (COUNT[name], name))
-    missing = [n for n in [5, 6] + list(range(20, 32)) + [33, 34] if COUNT["refused by %d" % n] < 5]
+    missing = [n for n in [1, 3, 4, 5, 6] + list(range(20, 32)) + [33, 34] if COUNT["refused by %d" % n] < 5]
     assert not missing, missing
 
 
