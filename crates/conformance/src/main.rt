@@ -1,41 +1,60 @@
-// Carries out the splits of a table of cases on a chain store, and prints what comes out: the lines that an independent decoder
-// gave for the same table.
+// Plays the cases of a table on both stores, and prints of each record what comes out and whether that is what the table has: an
+// independent decoder's answer, sheet and parents.
 #![tactic(auto)]
 
-mod checksum;
+mod answer;
+mod counts;
 mod head;
+mod lines;
+mod order;
+mod pairs;
 mod play;
+mod table;
+mod verdict;
 
+use anyhow::Context;
+use counts::Counts;
 use head::Head;
-use items::{Item, next_item};
-use place::{FloatPlace, Grid};
-use play::play;
-use std::io;
-use std::io::{BufReader, Read};
+use pairs::{play_chains, play_lists};
+use place::{FloatPlace, Grid, Place};
+use std::io::Read;
+use table::Table;
 
-const ITEM_LIMIT: usize = 8192;
+const INPUT_LIMIT: u64 = 16_777_216;
 
-fn play_case<R: Read>(rt: &HostRuntime, input: &mut R, head: Head) -> io::Result<()> {
-    if head.is_of_floats {
-        play::<FloatPlace, R>(rt, input, head)
-    } else {
-        play::<Grid, R>(rt, input, head)
-    }
+// A case, once on list stores and once more on chain stores.
+fn play_both<P: Place>(
+    rt: &HostRuntime,
+    table: &mut Table<'_>,
+    case: u32,
+    head: Head,
+    counts: &mut Counts,
+) -> anyhow::Result<()> {
+    println!(rt; "CASE {case} LIST")?;
+    let mut again = *table;
+    play_lists::<P>(rt, &mut again, head, counts)?;
+    println!(rt; "CASE {case} CHAIN")?;
+    play_chains::<P>(rt, table, head, counts)
 }
 
-fn main(rt: HostRuntime) -> io::Result<()> {
-    let mut input = BufReader::new(rt.alloc(), rt.stdin())?;
-    let mut buffer = [0u8; Head::SIZE];
+fn main(rt: HostRuntime) -> anyhow::Result<()> {
+    let mut input = Vec::new(rt.alloc());
+    rt.stdin().take(INPUT_LIMIT).read_to_end(&mut input)?;
+    let mut table = Table { rest: &input };
+    let mut counts = Counts::NONE;
     // By the number that is printed, which bounds how long an input can be.
     for case in 0..u32::MAX {
-        match next_item(&mut input, &mut buffer)? {
-            Item::Whole(_) => {
-                println!(&rt; "CASE {case}")?;
-                play_case(&rt, &mut input, Head::of(&buffer))?;
-            }
-            Item::Ended => return println!(&rt; "{case} cases"),
-            Item::Broken => return println!(&rt; "the head of case {case} is cut short"),
+        if table.rest.is_empty() {
+            println!(&rt; "CASES {case}")?;
+            break;
+        }
+        let head = Head::of(table.item().context("a head is cut short")?);
+        if head.is_of_floats {
+            play_both::<FloatPlace>(&rt, &mut table, case, head, &mut counts)?;
+        } else {
+            play_both::<Grid>(&rt, &mut table, case, head, &mut counts)?;
         }
     }
+    counts.print(&rt)?;
     Ok(())
 }
