@@ -1,7 +1,7 @@
 // The checks of a record on a closed mesh.
 ghost use Rattle.std.specs.Prelude.{◌≡◌, ◌+◌, ◌*◌, ◌≤◌, None, length, IfOk};
 ghost use Rattle.fault.specs.Faults.{checked};
-ghost use Rattle.mesh.specs.Meshes.{vertex_total, triangle_total};
+ghost use Rattle.mesh.specs.Meshes.{vertex_total};
 ghost use Rattle.mesh.specs.Closed.{Closed};
 ghost use Rattle.forest.specs.Splitting.{marked_of};
 ghost use Rattle.record.specs.Checks.{size_fault};
@@ -54,8 +54,6 @@ pub(crate) fn check_record<'t, P: Place, S: GrowingStore<Kind = P>>(
     requires closed { Closed (vertex_total (S.ReadingSurface.mesh store.now)) (S.ReadingSurface.mesh store.now).triangles }
     requires edges { from.now.edges ≡ edge_total (S.ReadingSurface.mesh store.now) }
     requires room { 16 * (S.GrowingStore.vertex_room store.now + S.GrowingStore.triangle_room store.now) ≤ length table.old }
-    requires vertices { vertex_total (S.ReadingSurface.mesh store.now) ≤ S.GrowingStore.vertex_room store.now }
-    requires triangles { triangle_total (S.ReadingSurface.mesh store.now) ≤ S.GrowingStore.triangle_room store.now }
     ensures fault { fault_in result ≡ record_fault P.Place.kind (S.GrowingStore.vertex_room store.now) (S.GrowingStore.triangle_room store.now) (S.ReadingSurface.mesh store.now) from.now.bytes.now }
     ensures edges { IfOk result (λ p. p.0.edges ≡ edges_marked (S.ReadingSurface.mesh store.now) from.now.bytes.now) }
     ensures trees { IfOk result (λ p. p.0.trees ≡ trees_formed (S.ReadingSurface.mesh store.now) from.now.bytes.now) }

@@ -1,8 +1,7 @@
 // A split carried out on a store: its checks in their order, and then the writing.
-ghost use Rattle.std.specs.Prelude.{◌≡◌, ◌≤◌, length};
+ghost use Rattle.std.specs.Prelude.{◌≡◌, length};
 ghost use Rattle.fault.specs.Faults.{or_else};
 ghost use Rattle.mesh.specs.Growth.{SameRoom};
-ghost use Rattle.mesh.specs.Meshes.{vertex_total, triangle_total};
 ghost use Rattle.runs.specs.Jobs.{mesh_unless};
 ghost use Rattle.runs.specs.Outcome.{edges_marked, trees_formed, mesh_made, split_told, told_unless, work_after};
 ghost use Rattle.engine.specs.Calls.{call_fault};
@@ -24,8 +23,6 @@ fn split_in<P: Place, S: GrowingStore<Kind = P>>(
     table: &mut [u32],
     bytes: &[u8],
 ) -> Result<Told, Fault>
-    requires vertices { vertex_total (S.ReadingSurface.mesh store.old) ≤ S.GrowingStore.vertex_room store.old }
-    requires triangles { triangle_total (S.ReadingSurface.mesh store.old) ≤ S.GrowingStore.triangle_room store.old }
     ensures answer { told_by result ≡ told_unless (call_fault P.Place.kind (S.GrowingStore.vertex_room store.old) (S.GrowingStore.triangle_room store.old) (length table.old) (S.ReadingSurface.mesh store.old) expected.vertices expected.triangles bytes.now)
         (split_told (mesh_made P.Place.kind (S.ReadingSurface.mesh store.old) bytes.now) (edges_marked (S.ReadingSurface.mesh store.old) bytes.now) (trees_formed (S.ReadingSurface.mesh store.old) bytes.now)) }
     ensures mesh { S.ReadingSurface.mesh store.new ≡ mesh_unless (call_fault P.Place.kind (S.GrowingStore.vertex_room store.old) (S.GrowingStore.triangle_room store.old) (length table.old) (S.ReadingSurface.mesh store.old) expected.vertices expected.triangles bytes.now)
@@ -65,8 +62,6 @@ pub fn split<P: Place, S: GrowingStore<Kind = P>>(
     table: &mut [u32],
     bytes: &[u8],
 ) -> Result<Told, Fault>
-    requires vertices { vertex_total (S.ReadingSurface.mesh store.old) ≤ S.GrowingStore.vertex_room store.old }
-    requires triangles { triangle_total (S.ReadingSurface.mesh store.old) ≤ S.GrowingStore.triangle_room store.old }
     ensures answer { told_by result ≡ told_unless (call_fault P.Place.kind (S.GrowingStore.vertex_room store.old) (S.GrowingStore.triangle_room store.old) (length table.old) (S.ReadingSurface.mesh store.old) expected.vertices expected.triangles bytes.now)
         (split_told (mesh_made P.Place.kind (S.ReadingSurface.mesh store.old) bytes.now) (edges_marked (S.ReadingSurface.mesh store.old) bytes.now) (trees_formed (S.ReadingSurface.mesh store.old) bytes.now)) }
     ensures mesh { S.ReadingSurface.mesh store.new ≡ mesh_unless (call_fault P.Place.kind (S.GrowingStore.vertex_room store.old) (S.GrowingStore.triangle_room store.old) (length table.old) (S.ReadingSurface.mesh store.old) expected.vertices expected.triangles bytes.now)

@@ -74,7 +74,7 @@ module _ (V : ℕ) (ts : List Tri) (ms : List Side) (g : Good V ts) (edges : Edg
       same : loop N (around ms k - 1) (N (root ms k)) ≡ loop (next ts ms) (around ms k - 1) (next ts ms (root ms k))
       same = ap (loop N (around ms k - 1)) (hop_next V ts ms g edges k (root ms k) root_in) ∙ loop_next k (around ms k - 1) (next ts ms (root ms k)) (next_in V ts ms g edges k (root ms k) root_in)
 
-all_whole : (ts : List Tri) (ms : List Side) (i : ℕ) (ks : List ℕ) → ((k : ℕ) → Mem k ks → whole ts ms k ≡ true) → first_early ts ms i ks ≡ None
+pub all_whole : (ts : List Tri) (ms : List Side) (i : ℕ) (ks : List ℕ) → ((k : ℕ) → Mem k ks → whole ts ms k ≡ true) → first_early ts ms i ks ≡ None
 all_whole ts ms i [] f = refl
 all_whole ts ms i (k ∷ ks) f = ap (λ b. cond b (first_early ts ms (suc i) ks) (Some i)) (f k now) ∙ all_whole ts ms (suc i) ks (λ k m. f k (later m))
 

@@ -1,5 +1,5 @@
 -- A base call, path by path.
-use Rattle.std.proofs.Common.{◌≡◌, ℕ, ◌*◌, ◌%◌, ◌<◌, Bool, true, cond, eqb, leb, List, [], length, Some, None, Ok, Err, Option, sym, refl, ap, ◌∙◌, subst, arith, eqb-true, leb-true}
+use Rattle.std.proofs.Common.{◌≡◌, ℕ, ◌*◌, ◌%◌, ◌<◌, Bool, true, cond, eqb, leb, List, [], length, Some, None, Ok, Err, Option, Result, sym, refl, ap, ◌∙◌, subst, arith, eqb-true, leb-true}
 use Rattle.std.specs.List.{slice_get}
 use Rattle.std.proofs.lemmas.List.{nil_from_length}
 use Rattle.std.proofs.lemmas.Bool.{and_parts}
@@ -11,6 +11,7 @@ use Rattle.fault.proofs.Orders.{or_none, mapped_none, test_passed}
 use Rattle.place.specs.Kinds.{Kind}
 use Rattle.mesh.specs.Triangles.{Tri}
 use Rattle.mesh.specs.Meshes.{Mesh, Vertex, mesh_of, vertex_total, triangle_total}
+use Rattle.mesh.specs.Growth.{RoomInLimits}
 use Rattle.mesh.specs.Limits.{counts_fault}
 use Rattle.mesh.proofs.Tests.{some_inj}
 use Rattle.std.proofs.lemmas.List.FromFn.{length-map-range_with_len}
@@ -27,7 +28,10 @@ use Rattle.sheet.specs.Content.{triangle_in, vertex_in, vertices_in, triangles_i
 use Rattle.sheet.specs.Opening.{opened}
 use Rattle.sheet.proofs.Opened.{opened_ok, opened_err}
 use Rattle.sheet.proofs.Fields.{vertices_right, triangles_right}
-use Rattle.runs.specs.Jobs.{base_numbers, fresh_numbers, is_empty, base_fault, mesh_unless, base_mesh, numbers_unless, base_answer}
+use Rattle.runs.specs.Calls.{state_of}
+use Rattle.runs.specs.Runs.{Run}
+use Rattle.runs.proofs.Going.{runs_begin}
+use Rattle.runs.specs.Jobs.{Numbers, base_numbers, fresh_numbers, is_empty, base_fault, mesh_unless, base_mesh, numbers_unless, base_answer}
 
 -- three edges for two triangles: the triangles are even in number
 even : (E T : ℕ) → 2 * E ≡ 3 * T → T % 2 ≡ 0
@@ -141,3 +145,12 @@ module _ {P D : Type 0} (k : Kind P D) (vr tr : ℕ) (m : Mesh P) (bs : List ℕ
   pub accepted_copy : (xs : List ℕ) (c : Counts) (after : Mesh P) → is_empty m ≡ true → Accepted xs c → after ≡ copied vr tr (sheet_mesh k xs) m → after ≡ base_mesh k vr tr m bs
   accepted_copy xs c after e a copy =
       copy ∙ ap (copied vr tr (sheet_mesh k xs)) (empty_start m e) ∙ copied_whole vr tr (sheet_mesh k xs) (accepted_copyable xs c a) ∙ accepted_mesh xs c e a
+
+-- an accepted base call begins a run
+pub begins : {P D : Type 0} (k : Kind P D) (vr tr : ℕ) (m : Mesh P) (bs : List ℕ) → RoomInLimits vr tr → (m' : Mesh P) (n : Numbers) → ◌≡◌ {A = Result Numbers Fault} (Ok n) (base_answer k vr tr m bs) → m' ≡ base_mesh k vr tr m bs → Run k vr tr bs [] (state_of m' n)
+begins k vr tr m bs room m' n e i = go (base_fault k vr tr m bs) refl e
+  where
+    go : (o : Option Fault) → base_fault k vr tr m bs ≡ o → ◌≡◌ {A = Result Numbers Fault} (Ok n) (numbers_unless o (base_numbers (sheet_mesh k bs))) → Run k vr tr bs [] (state_of m' n)
+    go None h j =
+        let same : n ≡ base_numbers (sheet_mesh k bs) = cc in subst (λ s. Run k vr tr bs [] s) (sym (λ l. state_of (i l) (same l))) (runs_begin k vr tr m bs room h)
+    go (Some f) h j = absurd (cc)

@@ -1,2 +1,4 @@
+pub mod Balance
 pub mod Bases
+pub mod Splits
 pub mod Steps

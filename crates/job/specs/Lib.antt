@@ -1,2 +1,4 @@
 pub mod Telling
 pub mod Answers
+pub mod Balance
+pub mod Levels

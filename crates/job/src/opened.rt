@@ -1,8 +1,10 @@
 // A job that has no base yet.
-ghost use Rattle.std.specs.Prelude.{◌≡◌};
+ghost use Rattle.std.specs.Prelude.{◌≡◌, [], IfOk};
 ghost use Rattle.mesh.specs.Growth.{SameRoom};
 ghost use Rattle.runs.specs.Jobs.{base_mesh, base_answer};
-ghost use Rattle.job.specs.Answers.{base_told};
+ghost use Rattle.runs.specs.Calls.{state_of};
+ghost use Rattle.runs.specs.Runs.{Run};
+ghost use Rattle.job.specs.Answers.{job_of, base_told};
 
 use crate::basing::take_base;
 use crate::running::Running;
@@ -46,6 +48,7 @@ impl Opened {
         ensures answer { base_told result ≡ base_answer P.Place.kind (S.GrowingStore.vertex_room store.old) (S.GrowingStore.triangle_room store.old) (S.ReadingSurface.mesh store.old) sheet.now }
         ensures mesh { S.ReadingSurface.mesh store.new ≡ base_mesh P.Place.kind (S.GrowingStore.vertex_room store.old) (S.GrowingStore.triangle_room store.old) (S.ReadingSurface.mesh store.old) sheet.now }
         ensures room { SameRoom S.GrowingStore.vertex_room S.GrowingStore.triangle_room store.old store.new }
+        ensures run { IfOk result (λ r. Run P.Place.kind (S.GrowingStore.vertex_room store.old) (S.GrowingStore.triangle_room store.old) sheet.now [] (state_of (S.ReadingSurface.mesh store.new) (job_of r))) }
     {
         let totals = take_base(store, sheet).map_err(|fault| Refused { job: self, fault })?;
         Ok(Running::start(totals))

@@ -3,6 +3,7 @@ ghost use Rattle.std.specs.Prelude.{◌≡◌, ◌+◌, ◌*◌, ◌%◌, ◌≤
 
 mod calls;
 mod questions;
+mod splitting;
 
 // The base's counts, the accepted records, and the forest edges and trees of these.
 #[derive(Drop)]

@@ -80,6 +80,11 @@ pub record RoomInLimits (vertices triangles : ℕ) : Type 0 where
   pub vertices_few : vertices ≤ 16384
   pub triangles_few : triangles ≤ 32768
 
+-- the mesh has no more vertices and triangles than there is room for
+pub record WithinRoom {P : Type 0} (vertices triangles : ℕ) (m : Mesh P) : Type 0 where
+  pub vertices_fit : vertex_total m ≤ vertices
+  pub triangles_fit : triangle_total m ≤ triangles
+
 -- both capacities are the same
 abbrev pub SameRoom : {S : Type 0} → (S → ℕ) → (S → ℕ) → S → S → Type 0
 SameRoom vertices triangles before after = (vertices after ≡ vertices before) × (triangles after ≡ triangles before)

@@ -1,7 +1,7 @@
 // What a store that grows is told, and what it answers.
 ghost use Rattle.std.specs.Prelude.{◌≡◌, ℕ, if◌then◌else◌};
 ghost use Rattle.mesh.specs.Triangles.{tri_of};
-ghost use Rattle.mesh.specs.Growth.{RoomInLimits, SameRoom, may_add_vertex, add_vertex, may_add_triangle, add_triangle};
+ghost use Rattle.mesh.specs.Growth.{RoomInLimits, WithinRoom, SameRoom, may_add_vertex, add_vertex, may_add_triangle, add_triangle};
 ghost use Rattle.mesh.specs.Growth.{may_replace_corner, replace_corner, may_replace_place, replace_place};
 
 use crate::limits::Room;
@@ -46,4 +46,7 @@ pub trait GrowingStore: ReadingSurface {
         ensures answer { result ≡ may_replace_place (Self.mesh self.old) v }
         ensures after { Self.mesh self.new ≡ (if result then replace_place (Self.mesh self.old) v place else Self.mesh self.old) }
         ensures room { SameRoom vertex_room triangle_room self.old self.new };
+
+    // A law that names the mesh stands below the functions.
+    ghost within_room: { (s : Self) → WithinRoom (vertex_room s) (triangle_room s) (Self.ReadingSurface.mesh s) };
 }

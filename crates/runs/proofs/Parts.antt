@@ -55,7 +55,7 @@ pub codes_counted : (bs : List ℕ) (m : ℕ) → length (record_codes bs m) ≡
 codes_counted bs m = length-map (codes_read bs m) code_of ∙ length-map-range_with_len _ 0 (code_count bs)
 
 -- each displacement reads whose bytes are there
-all_read : {P D : Type 0} (k : Kind P D) → Lawful k → (n : ℕ) (bs : List ℕ) → n * k.displacement_width ≤ length bs → length (displacements_read k n bs) ≡ n
+pub all_read : {P D : Type 0} (k : Kind P D) → Lawful k → (n : ℕ) (bs : List ℕ) → n * k.displacement_width ≤ length bs → length (displacements_read k n bs) ≡ n
 all_read k law zero bs h = refl
 all_read k law (suc n) bs h =
     let w = k.displacement_width in

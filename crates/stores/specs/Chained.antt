@@ -3,7 +3,7 @@ use Rattle.std.specs.Prelude.{ℕ, min, length}
 use Rattle.std.proofs.Common.{arith}
 use Rattle.place.specs.Kinds.{Kind}
 use Rattle.mesh.specs.Meshes.{Vertex, Mesh, mesh_of, InLimits}
-use Rattle.mesh.specs.Growth.{RoomInLimits}
+use Rattle.mesh.specs.Growth.{RoomInLimits, WithinRoom}
 use Rattle.stores.specs.declared.chain.ChainStore.{ChainStore}
 use Rattle.stores.specs.declared.chain_record.ChainVertex.{ChainVertex}
 use Rattle.stores.specs.Records.{front, front_few, vertex_in}
@@ -34,3 +34,11 @@ chain_limited k s =
 
 pub chain_room_limited : {P : Type 0} (s : ChainStore P) → RoomInLimits (chain_vertex_room s) (chain_triangle_room s)
 chain_room_limited s = record { vertices_few = omega arith; triangles_few = omega arith }
+
+pub chain_within_room : {P D : Type 0} (k : Kind P D) (s : ChainStore P) → WithinRoom (chain_vertex_room s) (chain_triangle_room s) (chain_mesh k s)
+chain_within_room k s =
+    let v = s.vertices_fit in
+    let t = s.triangles_fit in
+    let a = front_few (chained_in k) s.vertex_count s.tables.vertices.now in
+    let b = front_few corners_in s.triangle_count s.tables.triangles.now in
+    record { vertices_fit = omega arith; triangles_fit = omega arith }

@@ -1,7 +1,7 @@
 // How the chain store grows: each call keeps the chains right.
 ghost use Rattle.std.specs.Prelude.{◌≡◌, min, [], length};
 ghost use Rattle.mesh.specs.Meshes.{mesh_of};
-ghost use Rattle.stores.specs.Chained.{chain_mesh, chain_vertex_room, chain_triangle_room, chain_room_limited};
+ghost use Rattle.stores.specs.Chained.{chain_mesh, chain_vertex_room, chain_triangle_room, chain_room_limited, chain_within_room};
 
 use crate::chain::ChainStore;
 use crate::chain_record::{ChainTables, ChainTriangle, ChainVertex};
@@ -38,6 +38,8 @@ impl<'a, P: Place> GrowingStore for ChainStore<'a, P> {
     ghost triangle_room = { chain_triangle_room };
 
     ghost room_limited = { chain_room_limited };
+
+    ghost within_room = { chain_within_room P.Place.kind };
 
     fn room(&self) -> Room {
         room_of(self.tables.triangles.len(), self.tables.vertices.len())

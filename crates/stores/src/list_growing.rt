@@ -1,7 +1,7 @@
 // How the list store grows: records are written in place, and a new one goes behind those in use.
 ghost use Rattle.std.specs.Prelude.{◌≡◌, min, [], length};
 ghost use Rattle.mesh.specs.Meshes.{mesh_of};
-ghost use Rattle.stores.specs.Listed.{list_mesh, list_vertex_room, list_triangle_room, list_room_limited};
+ghost use Rattle.stores.specs.Listed.{list_mesh, list_vertex_room, list_triangle_room, list_room_limited, list_within_room};
 
 use crate::fits::{
     may_add_triangle, may_add_vertex, may_replace_corner, may_replace_place, room_of,
@@ -35,6 +35,8 @@ impl<'a, P: Place> GrowingStore for ListStore<'a, P> {
     ghost triangle_room = { list_triangle_room };
 
     ghost room_limited = { list_room_limited };
+
+    ghost within_room = { list_within_room P.Place.kind };
 
     fn room(&self) -> Room {
         room_of(self.triangles.len(), self.vertices.len())

@@ -1,11 +1,15 @@
 // The calls of a running job.
 ghost use Rattle.std.specs.Prelude.{◌≡◌, ◌%◌};
-ghost use Rattle.runs.specs.Jobs.{fresh_numbers};
+ghost use Rattle.mesh.specs.Meshes.{vertex_total};
+ghost use Rattle.runs.specs.Jobs.{fresh_numbers, vertices_now, triangles_now};
 ghost use Rattle.job.specs.Answers.{job_of, report_of};
+ghost use Rattle.job.specs.Levels.{level_of};
 
 use crate::closed::{Closed, Report};
+use crate::level::Level;
 use crate::running::Running;
-use mesh::Totals;
+use mesh::{ReadingSurface, Totals};
+use survey::survey_indexed;
 
 impl Running {
     // A job whose base has these totals.
@@ -22,21 +26,49 @@ impl Running {
         }
     }
 
+    // The totals of the job's mesh.
+    pub(crate) fn totals(&self) -> Totals
+        ensures vertices { result.vertices ≡ vertices_now (job_of self.now) }
+        ensures triangles { result.triangles ≡ triangles_now (job_of self.now) }
+    {
+        let growth = self.forest_edges - self.trees;
+        Totals {
+            vertices: self.base_vertices + growth,
+            triangles: self.base_triangles + 2 * growth,
+        }
+    }
+
+    // What the job's numbers tell.
+    fn report(&self) -> Report
+        ensures { result ≡ report_of (job_of self.now) }
+    {
+        let totals = self.totals();
+        Report {
+            vertices: totals.vertices,
+            edges: 3 * totals.triangles / 2,
+            triangles: totals.triangles,
+            records: self.records,
+            forest_edges: self.forest_edges,
+            trees: self.trees,
+        }
+    }
+
+    // The level that the job has come to in this store.
+    pub(crate) fn level<S: ReadingSurface>(&self, store: &S) -> Level
+        ensures { result ≡ level_of (S.mesh store.now) (job_of self.now) }
+    {
+        Level {
+            found: survey_indexed(store),
+            told: self.report(),
+        }
+    }
+
     // Ends the job, and keeps its report.
     pub fn close(self) -> Closed
         ensures { result.report ≡ report_of (job_of self) }
     {
-        let growth = self.forest_edges - self.trees;
-        let triangles = self.base_triangles + 2 * growth;
         Closed {
-            report: Report {
-                vertices: self.base_vertices + growth,
-                edges: 3 * triangles / 2,
-                triangles,
-                records: self.records,
-                forest_edges: self.forest_edges,
-                trees: self.trees,
-            },
+            report: self.report(),
         }
     }
 }

@@ -28,8 +28,9 @@ plant-requires-clause-room g c =
     let e = edges_counted (vertex_total m) m.triangles c.requires.closed in
     let a = c.requires.edges in
     let r = c.requires.room in
-    let v = c.requires.vertices in
-    let t = c.requires.triangles in omega arith
+    let w = g.met.S.GrowingStore.within_room c.args.store.now in
+    let v = w.vertices_fit in
+    let t = w.triangles_fit in omega arith
 
 pub returns-in_err-check_size-clause-fault : goal.returns-in_err-check_size-clause-fault
 returns-in_err-check_size-clause-fault g c =
@@ -135,8 +136,9 @@ sew-requires-clause-room g c =
     let e = edges_counted (vertex_total m) m.triangles c.requires.closed in
     let w = c.requires.edges in
     let r = c.requires.room in
-    let v = c.requires.vertices in
-    let o = c.requires.triangles in
+    let in_room = g.met.S.GrowingStore.within_room s in
+    let v = in_room.vertices_fit in
+    let o = in_room.triangles_fit in
     let q = x.rest in
     let two = c.requires.closed.two in omega arith
 
