@@ -1,4 +1,6 @@
 // What comes out of a record.
+ghost use Rattle.std.specs.Prelude.{◌≡◌};
+
 use engine::Told;
 use fault::Fault;
 use place::word_at;
@@ -18,6 +20,10 @@ pub enum Answer {
 }
 
 impl From<Fault> for Refusal {
+    ghost use Rattle.conformance.specs.Answers.{refusal};
+
+    ghost from_gives = { λ fault told. told ≡ refusal fault };
+
     fn from(fault: Fault) -> Refusal {
         Refusal {
             number: u32::from(fault.number()),
@@ -28,6 +34,10 @@ impl From<Fault> for Refusal {
 }
 
 impl From<Result<Told, Fault>> for Answer {
+    ghost use Rattle.conformance.specs.Answers.{answer};
+
+    ghost from_gives = { λ outcome told. told ≡ answer outcome };
+
     fn from(outcome: Result<Told, Fault>) -> Answer {
         match outcome {
             Ok(told) => Answer::Split(told),
@@ -37,8 +47,12 @@ impl From<Result<Told, Fault>> for Answer {
 }
 
 impl Answer {
+    ghost use Rattle.conformance.specs.Answers.{answer_in};
+
     // An item of three numbers is a refusal, one of five the counts of a split.
-    pub fn of(item: &[u8]) -> Answer {
+    pub fn of(item: &[u8]) -> Answer
+        ensures { result ≡ answer_in item.now }
+    {
         if item.len() == 16 {
             Answer::Refused(Refusal {
                 number: word_at(item, 4),

@@ -6,7 +6,7 @@ use crate::table::{Mesh, Step, Table};
 use crate::verdict::Verdict;
 use anyhow::Context;
 use job::{Running, open};
-use mesh::GrowingStore;
+use mesh::{GrowingStore, ReadingSurface};
 use place::Place;
 use std::alloc::{AllocError, Global};
 
@@ -16,79 +16,63 @@ const LEFT_OVER: u32 = 7;
 // No sheet is longer than an item of a table.
 const ITEM_LIMIT: usize = 65_536;
 
-// A store, and the mesh that it must hold.
-#[derive(Drop)]
-struct Side<'s, 't, S> {
-    store: &'s mut S,
-    mesh: Mesh<'t>,
+fn compare<S: ReadingSurface>(store: &S, mesh: Mesh<'_>) -> Verdict {
+    let mut buffer = [0; ITEM_LIMIT];
+    Verdict::of(store, mesh, &mut buffer)
 }
 
-impl<'s, 't, S: GrowingStore> Side<'s, 't, S> {
-    fn verdict(&self) -> Verdict {
-        Verdict::of(self.store, self.mesh, &mut [0; ITEM_LIMIT])
-    }
-}
-
-// Offers the record of a step, and tells what came out and whether that is what had to.
-fn offer<'t, P: Place, S: GrowingStore<Kind = P>>(
+// Offers the record of a step, and tells what came out, and whether that and the store's mesh are what they have to be.
+fn offer<P: Place, S: GrowingStore<Kind = P>>(
     heap: Global,
     job: &mut Running,
-    side: &mut Side<'_, 't, S>,
-    step: Step<'t>,
+    store: &mut S,
+    mesh: Mesh<'_>,
+    step: Step<'_>,
 ) -> Result<(Answer, Verdict), AllocError> {
     let order = step.order;
-    side.store
-        .replace_corner(order.triangle, order.corner, order.vertex);
-    side.mesh = step.mesh.unwrap_or(side.mesh);
+    store.replace_corner(order.triangle, order.corner, order.vertex);
     let mut table = vec![in heap; LEFT_OVER; order.table]?;
-    let answer = Answer::from(job.split(side.store, &mut table, step.record));
+    let answer = Answer::from(job.split(store, &mut table, step.record));
     let verdict = if answer != step.answer {
         Verdict::Answer
     } else if table.iter().any(|number| *number != 0) {
         Verdict::WorkTable
     } else {
-        side.verdict()
+        compare(store, mesh)
     };
     Ok((answer, verdict))
 }
 
 // The base and the records of a case; none of these where the base is refused.
-pub fn play<'t, P: Place, S: GrowingStore<Kind = P>>(
+pub fn play<P: Place, S: GrowingStore<Kind = P>>(
     rt: &HostRuntime,
-    table: &mut Table<'t>,
+    table: &mut Table<'_>,
     records: u32,
     own: &mut S,
     second: &mut S,
     counts: &mut Counts,
 ) -> anyhow::Result<()> {
-    let base = table.mesh().context("a base is cut short")?;
-    let other = table.mesh().context("a second base is cut short")?;
+    let mut own_mesh = table.mesh().context("a base is cut short")?;
+    let mut second_mesh = table.mesh().context("a second base is cut short")?;
     // A second store whose base is refused stays empty.
-    let _ = open().base(second, other.sheet);
-    let mut second = Side {
-        store: second,
-        mesh: other,
-    };
-    let mut job = match open().base(own, base.sheet) {
+    let _ = open().base(second, second_mesh.sheet);
+    let mut job = match open().base(own, own_mesh.sheet) {
         Ok(job) => job,
         Err(refused) => {
             print_refused_base(rt, Refusal::from(refused.fault))?;
             return Ok(());
         }
     };
-    let mut own = Side {
-        store: own,
-        mesh: base,
-    };
-    print_base(rt, job.survey(own.store)?, own.verdict())?;
+    print_base(rt, job.survey(own)?, compare(own, own_mesh))?;
     for item in 1..=records {
         let step = table.step().context("a record is cut short")?;
-        let side = if step.order.is_on_second {
-            &mut second
+        let (answer, verdict) = if step.order.is_on_second {
+            second_mesh = step.mesh.unwrap_or(second_mesh);
+            offer(rt.alloc(), &mut job, second, second_mesh, step)?
         } else {
-            &mut own
+            own_mesh = step.mesh.unwrap_or(own_mesh);
+            offer(rt.alloc(), &mut job, own, own_mesh, step)?
         };
-        let (answer, verdict) = offer(rt.alloc(), &mut job, side, step)?;
         counts.add(answer, verdict);
         print_answer(rt, item, answer, verdict)?;
     }

@@ -1,4 +1,7 @@
 // A table of cases, read item by item.
+ghost use Rattle.std.specs.Prelude.{◌≡◌, ◌↔◌, ◌+◌, ◌<◌, ◌++◌, length, IsNone, IfSome};
+ghost use Rattle.place.specs.Words.{word};
+
 use crate::answer::Answer;
 use crate::order::Order;
 use place::word_at;
@@ -27,7 +30,11 @@ pub struct Step<'a> {
 
 impl<'a> Table<'a> {
     // The next item, its length field included; none where the table ends before it does.
-    pub fn item(&mut self) -> Option<&'a [u8]> {
+    pub fn item(&mut self) -> Option<&'a [u8]>
+        ensures front { IfSome result (λ item. item.now ++ self.new.rest.now ≡ self.old.rest.now) }
+        ensures size { IfSome result (λ item. length item.now ≡ word self.old.rest.now 0 + 4) }
+        ensures short { IsNone result ↔ (length self.old.rest.now < word self.old.rest.now 0 + 4) }
+    {
         let size = word_at(self.rest, 0) as usize + 4;
         let (item, rest) = self.rest.split_at_checked(size)?;
         self.rest = rest;

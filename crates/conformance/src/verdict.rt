@@ -1,4 +1,7 @@
 // Whether what came out is what the table has.
+ghost use Rattle.std.specs.Prelude.{◌≡◌, ◌↔◌, IsNone, IfSome};
+ghost use Rattle.conformance.specs.Differences.{same_bytes, other_parent, first_other_parent};
+
 use crate::table::Mesh;
 use mesh::ReadingSurface;
 use place::word_at;
@@ -10,9 +13,9 @@ use std::fmt;
 pub enum Verdict {
     Same,
     Answer,
+    WorkTable,
     Sheet(usize),
     Parent(u32),
-    WorkTable,
 }
 
 impl fmt::Display for Verdict {
@@ -20,27 +23,44 @@ impl fmt::Display for Verdict {
         match self {
             Verdict::Same => write!(f, "SAME"),
             Verdict::Answer => write!(f, "DIFFERS IN ITS ANSWER"),
+            Verdict::WorkTable => write!(f, "LEAVES NUMBERS IN THE WORK TABLE"),
             Verdict::Sheet(byte) => write!(f, "DIFFERS AT BYTE {byte} OF THE SHEET"),
             Verdict::Parent(vertex) => write!(f, "DIFFERS AT THE PARENT OF VERTEX {vertex}"),
-            Verdict::WorkTable => write!(f, "LEAVES NUMBERS IN THE WORK TABLE"),
         }
     }
 }
 
-// The first index at which the two differ, or at which one of them ends.
-fn first_difference(left: &[u8], right: &[u8]) -> Option<usize> {
-    let same = left
-        .iter()
+// How many bytes at the front are the same.
+fn count_same(left: &[u8], right: &[u8]) -> usize
+    ensures { result ≡ same_bytes left.now right.now }
+{
+    left.iter()
         .zip(right.iter())
         .take_while(|(a, b)| a == b)
-        .count();
-    (same < left.len().max(right.len())).then_some(same)
+        .count()
 }
 
-// The first vertex whose parent is not the one in the item of numbers.
-fn first_parent<S: ReadingSurface>(store: &S, parents: &[u8]) -> Option<u32> {
-    (0..store.vertex_count()).find(|v| store.parent(*v)
-        != Some(word_at(parents, 4 + 4 * *v as usize)))
+// The first byte that differs, or where one of the two ends.
+fn first_difference(left: &[u8], right: &[u8]) -> Option<usize>
+    ensures same { IsNone result ↔ (left.now ≡ right.now) }
+    ensures first { IfSome result (λ n. n ≡ same_bytes left.now right.now) }
+{
+    (left != right).then_some(count_same(left, right))
+}
+
+fn is_other_parent<S: ReadingSurface>(store: &S, parents: &[u8], v: u32) -> bool
+    ensures { result ≡ other_parent (S.mesh store.now) parents.now v }
+{
+    store
+        .parent(v)
+        .is_none_or(|parent| parent != word_at(parents, 4 + 4 * v as usize))
+}
+
+// The first vertex whose parent is another than the item of numbers has.
+fn first_other_parent<S: ReadingSurface>(store: &S, parents: &[u8]) -> Option<u32>
+    ensures { result ≡ first_other_parent (S.mesh store.now) parents.now }
+{
+    (0..store.vertex_count()).find(|&v| is_other_parent(store, parents, v))
 }
 
 impl Verdict {
@@ -51,6 +71,6 @@ impl Verdict {
         if let Some(byte) = first_difference(sheet, mesh.sheet) {
             return Verdict::Sheet(byte);
         }
-        first_parent(store, mesh.parents).map_or(Verdict::Same, Verdict::Parent)
+        first_other_parent(store, mesh.parents).map_or(Verdict::Same, Verdict::Parent)
     }
 }
