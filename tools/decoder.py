@@ -754,8 +754,8 @@ def mesh_items(store):
 class Table:
     """A table of cases that is read item by item; its form is told in generate_cases.py."""
 
-    def __init__(self, data):
-        self.data, self.at = data, 0
+    def __init__(self, data, at=0):
+        self.data, self.at = data, at
 
     def item(self):
         size = 4 + number_at(self.data, self.at)
@@ -808,6 +808,21 @@ def play_case(table, case, store_name, counts):
     return lines
 
 
+def case_starts(data):
+    """Where the cases of a table begin."""
+    starts, table = [], Table(data)
+    while table.at < len(data):
+        starts.append(table.at)
+        records = table.numbers()[1]
+        table.mesh(), table.mesh()
+        for _ in range(records):
+            corner = table.numbers()[3]
+            table.item()
+            if len(table.item()) == 24 or corner < 3:
+                table.mesh()
+    return starts
+
+
 def verdict(store, mesh):
     """Whether the store's sheet and parents are these."""
     return "SAME" if mesh_items(store) == mesh else "DIFFERS"
@@ -818,8 +833,7 @@ def table(data):
     lines, at, case, counts = [], 0, 0, collections.Counter()
     while at < len(data):
         for store_name in ("LIST", "CHAIN"):
-            reader = Table(data)
-            reader.at = at
+            reader = Table(data, at)
             lines += play_case(reader, case, store_name, counts)
         at, case = reader.at, case + 1
     lines.append("CASES %d" % case)

@@ -673,11 +673,15 @@ class Play:
                 group.append(decoder.mesh_items(store))
         else:
             assert expect in (None, 0), (self.name, index, expect)
-            assert not second
-            check_accepted(self, before, data, outcome)
-            self.depth += 1
             self.lines.append("SPLIT %d %d %d %d %d %d" % ((index,) + outcome[:5]))
-            self.count(before, outcome)
+            COUNT["accepted splits"] += 1
+            if second:
+                assert decoder.survey(len(store.places), store.triangles) == outcome[:3]
+                COUNT["accepted on the second store"] += 1
+            else:
+                check_accepted(self, before, data, outcome)
+                self.depth += 1
+                self.count(before, outcome)
             group += [decoder.word_item(*outcome[:5]), decoder.mesh_items(store)]
         assert not any(table)
         COUNT["records with an order of their own"] += special
@@ -685,7 +689,6 @@ class Play:
 
     def count(self, before, outcome):
         v, e, t, marked, trees, forest = outcome
-        COUNT["accepted splits"] += 1
         COUNT["accepted, kind %s" % self.kind.__name__] += 1
         for tag in self.tags:
             COUNT["accepted on: " + tag] += 1
@@ -708,6 +711,9 @@ class Play:
         made = [e for tree in forest for e in tree.pairs if e not in self.base_edges]
         COUNT["accepted that mark an edge made by an earlier record"] += bool(made)
         COUNT["marked edges made by an earlier record"] += len(made)
+        COUNT["most vertices after a split"] = max(COUNT["most vertices after a split"], v)
+        COUNT["most triangles at a vertex"] = max(
+            COUNT["most triangles at a vertex"], collections.Counter(x for t in before[2] for x in t).most_common(1)[0][1])
         COUNT["accepted on 500 vertices or more"] += len(before[0]) >= 500
         COUNT["largest tree"] = max(COUNT["largest tree"], max(tree.size for tree in forest))
         COUNT["most copies of one vertex"] = max(
@@ -1143,6 +1149,9 @@ def levels_cases():
                       bodies(*[PILLOW, turned(PILLOW)] * 10), Float, LEVELS, 6, ["spanning", "again", "pairs"], 30)
     yield levels_case("levels: hub of 60, floats", "hub", bipyramid(60), Float, LEVELS, 5, ["star", "again", "path"], 20)
     yield levels_case("levels: block", "block", BLOCK, Grid, LEVELS, 20, again_and_again, 8)
+    yield levels_case("levels: large bodies, floats", "several bodies",
+                      bodies(torus(12, 20), turned(sphere(2)), bipyramid(150), double_torus(6, 7)), Float,
+                      (900, 1800), 3, ["pairs", "again", "again"], 50)
     yield levels_case("levels: torus of 1,000", "torus", torus(25, 40), Grid, large, 4,
                       ["pairs", "again", "random", "again"], 60)
 
@@ -1236,6 +1245,19 @@ def caller_cases():
     yield caller_case("caller: the same base, floats", "two handles", double_torus(3, 3), Float, double_torus(3, 3))
     yield caller_case("caller: V and T alike, another mesh", "icosahedron", ICOSAHEDRON, Grid, bipyramid(10))
     yield caller_case("caller: several bodies", "several bodies", bodies(BLOCK, turned(PILLOW), BLOCK), Float, BLOCK)
+
+    # A second store with the job's V and T is taken for the job's own, whatever its mesh; from then on the job's own
+    # store isn't the job's any more.
+    rng = random.Random("caller: taken for another")
+    play = Play("caller: taken for another", mixed(rng, ICOSAHEDRON), rng=rng, tags=("icosahedron",), other=bipyramid(10))
+    good = play.parts(style="random", limit=5).make()
+    for level in range(2):
+        play.store, play.other = play.other, play.store
+        other = play.parts(style="random", limit=5).make()
+        play.store, play.other = play.other, play.store
+        play.add(other, 0, second=True)
+        play.add(good, 4, 0)
+    yield play
 
     # Corner by corner, the two triangles of the second body are moved to vertices of the first one: at last each
     # side is there both ways, but one vertex has two rings and another none.
@@ -2137,6 +2159,8 @@ def main():
         print("%-28s %7d bytes, CRC-32 %08x" % (name.relative_to(folder), len(content), zlib.crc32(content)))
     COUNT["records"] = sum(len(play.groups) for play in plays)
     COUNT["cases"] = len(plays)
+    COUNT["cases, kind Float"] = sum(play.kind is Float for play in plays)
+    COUNT["refused"] = sum(COUNT["refused by %d" % number] for number in range(1, 35))
     COUNT["cases that are inputs of levels"] = sum(play.is_for_levels() for play in plays)
     for name in sorted(COUNT, key=lambda name: [int(x) if x.isdigit() else x for x in name.split()].__repr__()):
         print("%6d  %s" % (COUNT[name], name))
