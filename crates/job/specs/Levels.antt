@@ -1,5 +1,5 @@
 -- The levels that jobs come to.
-use Rattle.std.specs.Prelude.{◌≡◌, ℕ, List, true}
+use Rattle.std.specs.Prelude.{◌≡◌, ℕ, Bool, true, List}
 use Rattle.place.specs.Kinds.{Kind}
 use Rattle.mesh.specs.Meshes.{Mesh, vertex_total}
 use Rattle.survey.specs.Survey.{surveyed}
@@ -14,7 +14,11 @@ use Rattle.job.specs.Balance.{balanced}
 abbrev pub level_of : {P : Type 0} → Mesh P → Numbers → Level
 level_of m n = record { found = surveyed (vertex_total m) m.triangles; told = report_of n }
 
--- the level balances, whatever run of calls from whatever base led to the state
-abbrev pub RunsBalance : {P D : Type 0} → Kind P D → State P → Level → Type 0
-RunsBalance k s l =
-    (vertex_room triangle_room : ℕ) (sheet : List ℕ) (calls : List Call) → Run k vertex_room triangle_room sheet calls s → balanced l.found l.told ≡ true
+-- what is found is what is told
+abbrev pub level_balances : Level → Bool
+level_balances l = balanced l.found l.told
+
+-- the state's level balances, whatever run of calls from whatever base led to it
+abbrev pub RunsBalance : {P D : Type 0} → Kind P D → State P → Type 0
+RunsBalance k s =
+    (vertex_room triangle_room : ℕ) (sheet : List ℕ) (calls : List Call) → Run k vertex_room triangle_room sheet calls s → level_balances (level_of s.mesh s.numbers) ≡ true

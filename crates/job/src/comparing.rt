@@ -19,7 +19,7 @@ pub struct Comparison {
 
 // Tells both levels. Whatever calls led to them from one base, on stores of any room: both meshes are closed, no call found that
 // they were not, they have the base's figure V − E + T, and the base's triangles with as many more as the accepted splits brought
-// (`both`). Each level balances on every run of calls that leads to it (`first_balances`, `second_balances`).
+// (`both`). And each of the two balances (`first_balances`, `second_balances`).
 pub fn compare<P: Place, Q: Place, S: ReadingSurface<Kind = P>, R: ReadingSurface<Kind = Q>>(
     first: &Running,
     first_store: &S,
@@ -29,8 +29,8 @@ pub fn compare<P: Place, Q: Place, S: ReadingSurface<Kind = P>, R: ReadingSurfac
     ensures first { result.first ≡ level_of (S.ReadingSurface.mesh first_store.now) (job_of first.now) }
     ensures second { result.second ≡ level_of (R.ReadingSurface.mesh second_store.now) (job_of second.now) }
     ensures both { TwoJobs P.Place.kind Q.Place.kind (state_of (S.ReadingSurface.mesh first_store.now) (job_of first.now)) (state_of (R.ReadingSurface.mesh second_store.now) (job_of second.now)) }
-    ensures first_balances { RunsBalance P.Place.kind (state_of (S.ReadingSurface.mesh first_store.now) (job_of first.now)) result.first }
-    ensures second_balances { RunsBalance Q.Place.kind (state_of (R.ReadingSurface.mesh second_store.now) (job_of second.now)) result.second }
+    ensures first_balances { RunsBalance P.Place.kind (state_of (S.ReadingSurface.mesh first_store.now) (job_of first.now)) }
+    ensures second_balances { RunsBalance Q.Place.kind (state_of (R.ReadingSurface.mesh second_store.now) (job_of second.now)) }
 {
     Comparison {
         first: first.level(first_store),

@@ -1,5 +1,4 @@
 use Rattle.runs.proofs.Whole.{two_jobs}
-use Rattle.job.specs.Answers.{job_of}
 use Rattle.job.proofs.Balance.{runs_balance}
 use Rattle.job.proofs.comparing.compare.Goals as goal
 
@@ -7,7 +6,7 @@ pub returns-clause-both : goal.returns-clause-both
 returns-clause-both g c = two_jobs g.P.Place.kind g.Q.Place.kind g.met.P.Place.lawful g.met.Q.Place.lawful _ _
 
 pub returns-clause-first_balances : goal.returns-clause-first_balances
-returns-clause-first_balances g c = runs_balance g.P.Place.kind g.met.P.Place.lawful (g.S.ReadingSurface.mesh c.args.first_store.now) (job_of c.args.first.now) _ c.level.ensures
+returns-clause-first_balances g c = runs_balance g.P.Place.kind g.met.P.Place.lawful _
 
 pub returns-clause-second_balances : goal.returns-clause-second_balances
-returns-clause-second_balances g c = runs_balance g.Q.Place.kind g.met.Q.Place.lawful (g.R.ReadingSurface.mesh c.args.second_store.now) (job_of c.args.second.now) _ c.level-2.ensures
+returns-clause-second_balances g c = runs_balance g.Q.Place.kind g.met.Q.Place.lawful _
