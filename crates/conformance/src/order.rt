@@ -1,5 +1,5 @@
 // How a record is offered.
-ghost use Rattle.std.specs.Prelude.{◌≡◌, ◌==◌, min};
+ghost use Rattle.std.specs.Prelude.{◌≡◌, ◌↔◌, ◌==◌, ◌<◌, IsTrue, min};
 ghost use Rattle.place.specs.Words.{word};
 
 use place::word_at;
@@ -35,7 +35,9 @@ impl Order {
         }
     }
 
-    pub fn replaces(&self) -> bool {
+    pub fn replaces(&self) -> bool
+        ensures { IsTrue result ↔ (self.now.corner < 3) }
+    {
         u32::from(self.corner) < NO_CORNER
     }
 }
