@@ -1,0 +1,122 @@
+#!/usr/bin/env python3
+"""Measures a split call as the engine carries it out and as a plain Rust program does, and prints tables: tori of 1,000 to
+8,000 vertices and, with --fans, two fans back to back. bench_split.sh builds both programs first.
+
+A figure of a split call is that of a run with the record less that of a run without one, which stops before the call. The check
+that the mesh is closed is part of the call; what it costs by itself is told by a record of four bytes, which is refused
+behind it. Milliseconds are processor time, the least of many runs, which alternate; instructions are those that callgrind counts.
+"""
+import os
+import re
+import subprocess
+import sys
+import tempfile
+
+import fans_split
+import torus_split
+
+PROGRAMS = {"engine": "crates/split_bench/out/split_bench", "plain Rust": "bench/target/release/plain_split"}
+TORI = [(20, 50), (40, 50), (40, 100), (80, 100)]
+RIMS = [1000, 2000, 4000, 8000]
+RUNS = 200
+SECONDS = 20
+REFUSED_RECORD = bytes(4)
+
+
+def processor_time(program, path):
+    """Milliseconds of a run."""
+    with open(path, "rb") as given:
+        child = subprocess.Popen([program], stdin=given, stdout=subprocess.DEVNULL)
+        _, status, used = os.wait4(child.pid, 0)
+        child.returncode = os.waitstatus_to_exitcode(status)
+    assert child.returncode == 0
+    return 1000 * (used.ru_utime + used.ru_stime)
+
+
+def least_times(paths):
+    """For each program the least time of each input. Runs alternate, so that what else the machine does meets all alike."""
+    least = {}
+    spent = run = 0
+    while run < RUNS and (spent < 1000 * SECONDS or run < 3):
+        for name, program in PROGRAMS.items():
+            for given, path in paths.items():
+                time = processor_time(program, path)
+                least[name, given] = min(time, least.get((name, given), time))
+                spent += time
+        run += 1
+    return least
+
+
+def instructions(program, path):
+    with open(path, "rb") as given:
+        said = subprocess.run(["valgrind", "--tool=callgrind", "--callgrind-out-file=/dev/null", program],
+                              stdin=given, capture_output=True, check=True)
+    return int(re.search(rb"Collected *: *(\d+)", said.stderr)[1])
+
+
+def outcome(path):
+    """What both programs say of the record: the vertices after it."""
+    said = set()
+    for program in PROGRAMS.values():
+        with open(path, "rb") as given:
+            said.add(subprocess.run([program], stdin=given, capture_output=True, check=True).stdout)
+    assert len(said) == 1 and next(iter(said)).startswith(b"SPLIT "), said
+    return int(said.pop().split()[1])
+
+
+def measure(sheet, record):
+    """The vertices after the split, and for each program milliseconds and instructions of the call, and of its closedness check."""
+    with tempfile.TemporaryDirectory() as folder:
+        paths = {given: os.path.join(folder, given) for given in ("without", "refused", "with")}
+        for given, behind in zip(paths.values(), (b"", REFUSED_RECORD, record)):
+            with open(given, "wb") as file:
+                file.write(sheet + behind)
+        after = outcome(paths["with"])
+        times = least_times(paths)
+        counts = {(name, given): instructions(program, path)
+                  for name, program in PROGRAMS.items() for given, path in paths.items()}
+    figures = {}
+    for name in PROGRAMS:
+        for given in ("refused", "with"):
+            figures[name, given] = [of[name, given] - of[name, "without"] for of in (times, counts)]
+    return after, figures
+
+
+def growth(now, before):
+    return "%.2f" % (now / before) if before else ""
+
+
+def table(title, cases):
+    """Prints a row for each case, which is vertices, sheet and record. Growth is from the row before."""
+    print(title, end="\n\n")
+    print("| vertices | after | ms, engine | growth | ms, plain | growth | ratio "
+          "| instructions, engine | growth | instructions, plain | growth | ratio |")
+    print("|" + "---:|" * 12)
+    checks = []
+    before = [[0, 0], [0, 0]]
+    for vertices, sheet, record in cases:
+        after, figures = measure(sheet, record)
+        ours, plain = (figures[name, "with"] for name in PROGRAMS)
+        cells = [f"{vertices:,}", f"{after:,}"]
+        for unit, form in ((0, "{:.2f}"), (1, "{:,}")):
+            for now, then in ((ours, before[0]), (plain, before[1])):
+                cells += [form.format(now[unit]), growth(now[unit], then[unit])]
+            cells.append("%.1f" % (ours[unit] / plain[unit]))
+        print("| " + " | ".join(cells) + " |", flush=True)
+        before = [ours, plain]
+        checks.append((vertices, [figures[name, "refused"] for name in PROGRAMS]))
+    print("\nOf this the check that the mesh is closed:\n")
+    print("| vertices | ms, engine | ms, plain | instructions, engine | instructions, plain |")
+    print("|" + "---:|" * 5)
+    for vertices, (ours, plain) in checks:
+        print(f"| {vertices:,} | {ours[0]:.2f} | {plain[0]:.2f} | {ours[1]:,} | {plain[1]:,} |")
+    print()
+
+
+if __name__ == "__main__":
+    if sys.argv[1:] not in ([], ["--fans"]):
+        sys.exit("usage: bench_split.py [--fans]")
+    table("Tori", ((rows * columns, *torus_split.torus_split(rows, columns)) for rows, columns in TORI))
+    if sys.argv[1:]:
+        for marked in ("rim", "spokes"):
+            table(f"Fans, {marked} marked", ((rim + 2, *fans_split.fans_split(rim, marked)) for rim in RIMS))
