@@ -17,7 +17,7 @@ import torus_split
 
 PROGRAMS = {"engine": "crates/split_bench/out/split_bench", "plain Rust": "bench/target/release/plain_split"}
 TORI = [(20, 50), (40, 50), (40, 100), (80, 100)]
-RIMS = [1000, 2000, 4000, 8000]
+RIMS = [500, 1000, 2000, 4000]
 RUNS = 200
 SECONDS = 20
 REFUSED_RECORD = bytes(4)
