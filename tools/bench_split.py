@@ -2,9 +2,10 @@
 """Measures a split call as the engine carries it out and as a plain Rust program does, and prints tables: tori of 1,000 to
 8,000 vertices and, with --fans, two fans back to back. bench_split.sh builds both programs first.
 
-A figure of a split call is that of a run with the record less that of a run without one, which stops before the call. The check
-that the mesh is closed is part of the call; what it costs by itself is told by a record of four bytes, which is refused
-behind it. Milliseconds are processor time, the least of many runs, which alternate; instructions are those that callgrind counts.
+A figure of a split call is that of a run with the record less that of a run without one, which makes the base call alone. The
+check that the mesh is closed is part of the call; what it costs by itself is told by a record of four bytes, which is refused
+behind it. Milliseconds are processor time: a run makes its calls many times over, runs with and without alternate, and the
+least of each is taken. Instructions are those that callgrind counts, of one call.
 """
 import os
 import re
@@ -18,33 +19,27 @@ import torus_split
 PROGRAMS = {"engine": "crates/split_bench/out/split_bench", "plain Rust": "bench/target/release/plain_split"}
 TORI = [(20, 50), (40, 50), (40, 100), (80, 100)]
 RIMS = [500, 1000, 2000, 4000]
-RUNS = 200
-SECONDS = 20
+RUNS = 20
+RUN_MILLISECONDS = 250
 REFUSED_RECORD = bytes(4)
 
 
-def processor_time(program, path):
-    """Milliseconds of a run."""
+def processor_time(program, path, times):
+    """Milliseconds of a run that makes its calls so many times."""
     with open(path, "rb") as given:
-        child = subprocess.Popen([program], stdin=given, stdout=subprocess.DEVNULL)
+        child = subprocess.Popen([program, str(times)], stdin=given, stdout=subprocess.DEVNULL)
         _, status, used = os.wait4(child.pid, 0)
         child.returncode = os.waitstatus_to_exitcode(status)
     assert child.returncode == 0
     return 1000 * (used.ru_utime + used.ru_stime)
 
 
-def least_times(paths):
-    """For each program the least time of each input. Runs alternate, so that what else the machine does meets all alike."""
-    least = {}
-    spent = run = 0
-    while run < RUNS and (spent < 1000 * SECONDS or run < 3):
-        for name, program in PROGRAMS.items():
-            for given, path in paths.items():
-                time = processor_time(program, path)
-                least[name, given] = min(time, least.get((name, given), time))
-                spent += time
-        run += 1
-    return least
+def least_times(program, paths):
+    """For each input the least time of its calls. Runs alternate, so that what else the machine does meets all alike."""
+    once = processor_time(program, paths["with"], 1)
+    times = max(2, round(RUN_MILLISECONDS / once))
+    runs = [[processor_time(program, path, times) for path in paths.values()] for _ in range(RUNS if once < 500 else 3)]
+    return {given: least / times for given, least in zip(paths, map(min, zip(*runs)))}
 
 
 def instructions(program, path):
@@ -72,13 +67,12 @@ def measure(sheet, record):
             with open(given, "wb") as file:
                 file.write(sheet + behind)
         after = outcome(paths["with"])
-        times = least_times(paths)
-        counts = {(name, given): instructions(program, path)
-                  for name, program in PROGRAMS.items() for given, path in paths.items()}
-    figures = {}
-    for name in PROGRAMS:
-        for given in ("refused", "with"):
-            figures[name, given] = [of[name, given] - of[name, "without"] for of in (times, counts)]
+        figures = {}
+        for name, program in PROGRAMS.items():
+            times = least_times(program, paths)
+            counts = {given: instructions(program, path) for given, path in paths.items()}
+            for given in ("refused", "with"):
+                figures[name, given] = [of[given] - of["without"] for of in (times, counts)]
     return after, figures
 
 

@@ -1,6 +1,7 @@
 //! The same work as `crates/split_bench`, as a plain Rust program, to be measured beside it: it reads a sheet of grid places
-//! and a record from standard input, carries the record out, and prints what comes out. With `--table` it carries out a table
-//! of cases, as `crates/split_cases`.
+//! and a record from standard input, carries the record out, and prints what comes out. Where there is no record it makes the
+//! base call alone. A number as argument says how many times it does so, each time from the sheet on. With `--table` it carries
+//! out a table of cases instead, as `crates/split_cases`.
 
 mod fault;
 mod loops;
@@ -29,38 +30,43 @@ fn base<P: Place>(sheet: &[u8], room: Room) -> Result<Mesh<P>, Fault> {
 }
 
 /// What is printed for a sheet and the record behind it, if there is one.
-fn play(input: &[u8]) -> String {
+fn play(input: &[u8], times: usize) -> String {
     let room = Room {
         vertices: MAX_VERTICES,
         triangles: MAX_TRIANGLES,
     };
     let size = word(input, 0).map_or(0, |n| n as usize + 4).min(input.len());
     let (sheet, record) = input.split_at(size);
-    let Ok(mut mesh) = base::<Grid>(sheet, room) else {
-        return "no base\n".to_string();
-    };
-    let expected = (mesh.places.len(), mesh.triangles.len());
-    if record.is_empty() {
-        return "no record\n".to_string();
+    let mut answer = None;
+    for _ in 0..times {
+        let Ok(mut mesh) = base::<Grid>(sheet, room) else {
+            return "no base\n".to_string();
+        };
+        let expected = (mesh.places.len(), mesh.triangles.len());
+        if !record.is_empty() {
+            answer = Some(split(&mut mesh, room, expected, record));
+        }
     }
-    match split(&mut mesh, room, expected, record) {
-        Ok(told) => format!(
+    match answer {
+        Some(Ok(told)) => format!(
             "SPLIT {} {} {}\n",
             told.vertices,
             3 * told.triangles / 2,
             told.triangles
         ),
-        Err(fault) => format!("REFUSED {} {}\n", fault.number, fault.spot),
+        Some(Err(fault)) => format!("REFUSED {} {}\n", fault.number, fault.spot),
+        None => "no record\n".to_string(),
     }
 }
 
 fn main() -> io::Result<()> {
     let mut input = Vec::new();
     io::stdin().read_to_end(&mut input)?;
-    let said = match env::args().nth(1).as_deref() {
-        None => play(&input),
-        Some("--table") => table::play(&input),
-        Some(_) => "usage: plain_split [--table] < FILE\n".to_string(),
+    let argument = env::args().nth(1);
+    let said = if argument.as_deref() == Some("--table") {
+        table::play(&input)
+    } else {
+        play(&input, argument.and_then(|word| word.parse().ok()).unwrap_or(1))
     };
     io::stdout().write_all(said.as_bytes())
 }
