@@ -4,6 +4,5 @@
 set -euo pipefail
 cd "$(dirname "$0")/.."
 (cd crates/split_bench && rt run < stdin) > /dev/null
-# For the same processor as rt builds for.
-(cd bench && RUSTFLAGS='-C target-cpu=x86-64-v2' cargo build --release --quiet)
+(cd bench && cargo build --release --quiet)
 exec python3 tools/bench_split.py "$@"
