@@ -77,40 +77,35 @@ def measure(sheet, record):
 
 
 def growth(now, before):
-    return "%.2f" % (now / before) if before else ""
+    return f"{now / before:.2f}" if before else ""
 
 
-def table(title, cases):
-    """Prints a row for each case, which is vertices, sheet and record. Growth is from the row before."""
-    print(title, end="\n\n")
-    print("| vertices | after | ms, engine | growth | ms, plain | growth | ratio "
-          "| instructions, engine | growth | instructions, plain | growth | ratio |")
-    print("|" + "---:|" * 12)
-    checks = []
-    before = [[0, 0], [0, 0]]
-    for vertices, sheet, record in cases:
-        after, figures = measure(sheet, record)
-        ours, plain = (figures[name, "with"] for name in PROGRAMS)
-        cells = [f"{vertices:,}", f"{after:,}"]
-        for unit, form in ((0, "{:.2f}"), (1, "{:,}")):
-            for now, then in ((ours, before[0]), (plain, before[1])):
-                cells += [form.format(now[unit]), growth(now[unit], then[unit])]
-            cells.append("%.1f" % (ours[unit] / plain[unit]))
-        print("| " + " | ".join(cells) + " |", flush=True)
-        before = [ours, plain]
-        checks.append((vertices, [figures[name, "refused"] for name in PROGRAMS]))
-    print("\nOf this the check that the mesh is closed:\n")
-    print("| vertices | ms, engine | ms, plain | instructions, engine | instructions, plain |")
-    print("|" + "---:|" * 5)
-    for vertices, (ours, plain) in checks:
-        print(f"| {vertices:,} | {ours[0]:.2f} | {plain[0]:.2f} | {ours[1]:,} | {plain[1]:,} |")
-    print()
+def print_table(unit, form, rows):
+    """Rows are vertices before and after, and the figures of both programs. Growth is from the row before."""
+    print(f"| vertices | after | {unit}, engine | growth | {unit}, plain Rust | growth | ratio |")
+    print("|" + "---:|" * 7)
+    before = 0, 0
+    for vertices, after, ours, plain in rows:
+        cells = f"{vertices:,}", f"{after:,}", form(ours), growth(ours, before[0]), form(plain), growth(plain, before[1])
+        print("| " + " | ".join(cells) + f" | {ours / plain:.1f} |")
+        before = ours, plain
+    print(flush=True)
+
+
+def tables(title, cases):
+    """Measures each case, which is vertices, sheet and record, and prints the tables."""
+    measured = [(vertices, *measure(sheet, record)) for vertices, sheet, record in cases]
+    for given, of in (("with", title), ("refused", f"{title}: of this the check that the mesh is closed")):
+        print(of, end="\n\n")
+        for k, (unit, form) in enumerate((("ms", "{:.2f}".format), ("instructions", "{:,}".format))):
+            print_table(unit, form, [(vertices, after, *(figures[name, given][k] for name in PROGRAMS))
+                                     for vertices, after, figures in measured])
 
 
 if __name__ == "__main__":
     if sys.argv[1:] not in ([], ["--fans"]):
         sys.exit("usage: bench_split.py [--fans]")
-    table("Tori", ((rows * columns, *torus_split.torus_split(rows, columns)) for rows, columns in TORI))
+    tables("Tori", ((rows * columns, *torus_split.torus_split(rows, columns)) for rows, columns in TORI))
     if sys.argv[1:]:
         for marked in ("rim", "spokes"):
-            table(f"Fans, {marked} marked", ((rim + 2, *fans_split.fans_split(rim, marked)) for rim in RIMS))
+            tables(f"Fans, {marked} marked", ((rim + 2, *fans_split.fans_split(rim, marked)) for rim in RIMS))
