@@ -768,8 +768,11 @@ class Table:
         item = self.item()
         return struct.unpack(">%dI" % (len(item) // 4 - 1), item[4:])
 
+    def mesh_parts(self):
+        return self.item(), self.item()
+
     def mesh(self):
-        return self.item() + self.item()
+        return b"".join(self.mesh_parts())
 
     def items(self):
         """All items that are left."""
@@ -782,7 +785,7 @@ def play_case(table, case, store_name, counts):
     kind_byte, records, vertex_capacity, triangle_capacity = table.numbers()
     stores = [Store(KINDS[kind_byte], vertex_capacity, triangle_capacity) for _ in range(2)]
     meshes, job, lines = [table.mesh(), table.mesh()], None, ["CASE %d %s" % (case, store_name)]
-    for store, mesh in reversed(list(zip(stores, meshes))):
+    for store, mesh in reversed(list(zip(stores, meshes))):         # the job is that of the first one
         try:
             job = base_call(store, Table(mesh).item())
         except Refusal as refusal:

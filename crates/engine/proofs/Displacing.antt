@@ -1,5 +1,5 @@
 -- The displacements of positions, one after another.
-use Rattle.std.proofs.Common.{◌≡◌, ℕ, zero, suc, ◌+◌, ◌-◌, ◌*◌, ◌<◌, ◌≤◌, Bool, cond, List, [], ◌∷◌, length, get_or, take, drop, is_some, Some, None, Option, sym, refl, ap, ◌∙◌, add-mul, one-mul, zero-mul, arith, length-drop, take_all}
+use Rattle.std.proofs.Common.{◌≡◌, ℕ, zero, suc, ◌+◌, ◌-◌, ◌*◌, ◌<◌, ◌≤◌, Bool, cond, List, [], ◌∷◌, length, get_or, take, drop, is_some, Some, None, Option, sym, ap, ◌∙◌, add-mul, one-mul, zero-mul, arith, length-drop, take_all}
 use Rattle.std.proofs.lemmas.List.{drop_all}
 use Rattle.std.proofs.Math.Seq.{drop-cons, drop-nil}
 use Rattle.std.specs.Option.{option_and_then}
@@ -45,18 +45,6 @@ module _ {P D : Type 0} (k : Kind P D) (law : Lawful k) where
             ∙ ap (λ o. in_front o (displacements_read k (n - (i + 1)) (drop w (drop (i * w) bs)))) r.1
             ∙ ap (λ ys. r.0 ∷ displacements_read k (n - (i + 1)) ys) (drop_more (i * w) w bs ∙ ap (λ m. drop m bs) c),
       )
-
-  -- each displacement reads whose bytes are there
-  pub all_read : (n : ℕ) (bs : List ℕ) → n * k.displacement_width ≤ length bs → length (displacements_read k n bs) ≡ n
-  all_read zero bs h = refl
-  all_read (suc n) bs h =
-      let w = k.displacement_width in
-      let c : suc n * w ≡ (n + 1) * w = ap (λ i. i * w) (omega arith) in
-      let a = add-mul n 1 w in
-      let b = one-mul w in
-      let r = law.displacement_reads bs (omega arith) in
-      let l = length-drop w bs in
-      ap (λ o. length (in_front o (displacements_read k n (drop w bs)))) r.1 ∙ ap suc (all_read n (drop w bs) (omega arith))
 
   module _ (vs : List (Vertex P)) where
     -- the first refused of the positions from i on

@@ -2,6 +2,7 @@ pub mod Accepting
 pub mod Adding
 pub mod Apexes
 pub mod Appending
+pub mod Calling
 pub mod Clashing
 pub mod Closing
 pub mod Displacing

@@ -1,23 +1,16 @@
 -- Where the codes of the trees close, only a side that is in two triangles is left to refuse.
-use Rattle.std.proofs.Common.{◌≡◌, ℕ, suc, Bool, true, cond, List, [], ◌∷◌, ◌++◌, Some, None, Option, sym, refl, ap, ◌∙◌, subst}
+use Rattle.std.proofs.Common.{◌≡◌, ℕ, Bool, List, [], ◌++◌, None, Option, sym, ap, ◌∙◌, subst}
 use Rattle.std.specs.Option.{option_map}
 use Rattle.fault.specs.declared.fault.Fault.{Fault}
 use Rattle.fault.specs.declared.fault.Fault.TheVariants.{CodesOffTree, LoopTooShort, SideTwice}
 use Rattle.fault.specs.Faults.{or_else}
-use Rattle.mesh.specs.Lists.{Mem, now, later}
 use Rattle.mesh.specs.Triangles.{Tri}
-use Rattle.mesh.specs.Sides.{Side}
 use Rattle.mesh.specs.Closed.{Closed}
 use Rattle.forest.specs.Trees.{trees}
-use Rattle.forest.specs.Loops.{whole}
 use Rattle.forest.specs.Polygons.{Code}
 use Rattle.forest.specs.Splitting.{added_triangles, first_early, first_twice, first_unclosed, forest_fault, kept_triangles, marked_of, sewing_fault, split_triangles}
 use Rattle.forest.proofs.Checking.{planted}
-use Rattle.forest.proofs.Wholes.{never_early}
-
-all_whole : (ts : List Tri) (ms : List Side) (i : ℕ) (ks : List ℕ) → ((k : ℕ) → Mem k ks → whole ts ms k ≡ true) → first_early ts ms i ks ≡ None
-all_whole ts ms i [] f = refl
-all_whole ts ms i (k ∷ ks) f = ap (λ b. cond b (first_early ts ms (suc i) ks) (Some i)) (f k now) ∙ all_whole ts ms (suc i) ks (λ k m. f k (later m))
+use Rattle.forest.proofs.Wholes.{all_whole, never_early}
 
 module _ (V : ℕ) (ts : List Tri) (n : ℕ) (cs : List Code) (closed : Closed V ts) (kept added : List Tri) (o : Option Fault) where
   clash_same : (bs : List Bool) → forest_fault V ts bs n ≡ None → None ≡ option_map CodesOffTree (first_unclosed (marked_of ts bs) 0 (trees V (marked_of ts bs)) cs)

@@ -14,7 +14,7 @@ use Rattle.forest.specs.Tables.{key_side, key_sides, word_tris}
 use Rattle.forest.specs.Theorems.{led_back}
 use Rattle.forest.proofs.Fans.{link_left, link_right}
 use Rattle.engine.specs.Writing.{Exchangeable, Fitting, Writable}
-use Rattle.engine.proofs.Displacing.{all_read}
+use Rattle.runs.proofs.Parts.{all_read}
 
 -- as many vertices are added as numbers are used
 added_counted : {P D : Type 0} (k : Kind P D) (vs : List (Vertex P)) (seen : List ℕ) (n : ℕ) (ss : List Side) (ds : List D) → length vs ≤ n → ((s : Side) → Mem s ss → start s < length vs) → length ss ≤ length ds

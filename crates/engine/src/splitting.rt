@@ -1,10 +1,8 @@
 // A split carried out on a store: its checks in their order, and then the writing.
 ghost use Rattle.std.specs.Prelude.{◌≡◌, length};
-ghost use Rattle.fault.specs.Faults.{or_else};
 ghost use Rattle.mesh.specs.Growth.{SameRoom};
-ghost use Rattle.runs.specs.Jobs.{mesh_unless};
-ghost use Rattle.runs.specs.Outcome.{edges_marked, trees_formed, mesh_made, split_told, told_unless, work_after};
-ghost use Rattle.engine.specs.Calls.{call_fault};
+ghost use Rattle.runs.specs.Outcome.{work_after};
+ghost use Rattle.engine.specs.Calls.{call_answer, call_mesh};
 ghost use Rattle.engine.specs.Telling.{told_by};
 
 use crate::call::check_call;
@@ -23,10 +21,8 @@ fn split_in<P: Place, S: GrowingStore<Kind = P>>(
     table: &mut [u32],
     bytes: &[u8],
 ) -> Result<Told, Fault>
-    ensures answer { told_by result ≡ told_unless (call_fault P.Place.kind (S.GrowingStore.vertex_room store.old) (S.GrowingStore.triangle_room store.old) (length table.old) (S.ReadingSurface.mesh store.old) expected.vertices expected.triangles bytes.now)
-        (split_told (mesh_made P.Place.kind (S.ReadingSurface.mesh store.old) bytes.now) (edges_marked (S.ReadingSurface.mesh store.old) bytes.now) (trees_formed (S.ReadingSurface.mesh store.old) bytes.now)) }
-    ensures mesh { S.ReadingSurface.mesh store.new ≡ mesh_unless (call_fault P.Place.kind (S.GrowingStore.vertex_room store.old) (S.GrowingStore.triangle_room store.old) (length table.old) (S.ReadingSurface.mesh store.old) expected.vertices expected.triangles bytes.now)
-        (S.ReadingSurface.mesh store.old) (mesh_made P.Place.kind (S.ReadingSurface.mesh store.old) bytes.now) }
+    ensures answer { told_by result ≡ call_answer P.Place.kind (S.GrowingStore.vertex_room store.old) (S.GrowingStore.triangle_room store.old) (length table.old) (S.ReadingSurface.mesh store.old) expected.vertices expected.triangles bytes.now }
+    ensures mesh { S.ReadingSurface.mesh store.new ≡ call_mesh P.Place.kind (S.GrowingStore.vertex_room store.old) (S.GrowingStore.triangle_room store.old) (length table.old) (S.ReadingSurface.mesh store.old) expected.vertices expected.triangles bytes.now }
     ensures room { SameRoom S.GrowingStore.vertex_room S.GrowingStore.triangle_room store.old store.new }
     ensures table { length table.new ≡ length table.old }
 {
@@ -62,10 +58,8 @@ pub fn split<P: Place, S: GrowingStore<Kind = P>>(
     table: &mut [u32],
     bytes: &[u8],
 ) -> Result<Told, Fault>
-    ensures answer { told_by result ≡ told_unless (call_fault P.Place.kind (S.GrowingStore.vertex_room store.old) (S.GrowingStore.triangle_room store.old) (length table.old) (S.ReadingSurface.mesh store.old) expected.vertices expected.triangles bytes.now)
-        (split_told (mesh_made P.Place.kind (S.ReadingSurface.mesh store.old) bytes.now) (edges_marked (S.ReadingSurface.mesh store.old) bytes.now) (trees_formed (S.ReadingSurface.mesh store.old) bytes.now)) }
-    ensures mesh { S.ReadingSurface.mesh store.new ≡ mesh_unless (call_fault P.Place.kind (S.GrowingStore.vertex_room store.old) (S.GrowingStore.triangle_room store.old) (length table.old) (S.ReadingSurface.mesh store.old) expected.vertices expected.triangles bytes.now)
-        (S.ReadingSurface.mesh store.old) (mesh_made P.Place.kind (S.ReadingSurface.mesh store.old) bytes.now) }
+    ensures answer { told_by result ≡ call_answer P.Place.kind (S.GrowingStore.vertex_room store.old) (S.GrowingStore.triangle_room store.old) (length table.old) (S.ReadingSurface.mesh store.old) expected.vertices expected.triangles bytes.now }
+    ensures mesh { S.ReadingSurface.mesh store.new ≡ call_mesh P.Place.kind (S.GrowingStore.vertex_room store.old) (S.GrowingStore.triangle_room store.old) (length table.old) (S.ReadingSurface.mesh store.old) expected.vertices expected.triangles bytes.now }
     ensures room { SameRoom S.GrowingStore.vertex_room S.GrowingStore.triangle_room store.old store.new }
     ensures table { table.new ≡ work_after table.old }
 {

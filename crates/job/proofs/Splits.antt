@@ -12,13 +12,13 @@ use Rattle.mesh.proofs.Tests.{none_some}
 use Rattle.forest.specs.Splitting.{marked_of, unmarked_fault}
 use Rattle.runs.specs.Jobs.{Numbers, vertices_now, triangles_now, mesh_unless}
 use Rattle.runs.specs.Parts.{record_marks}
-use Rattle.runs.specs.Outcome.{SplitTold, split_told, told_unless, edge_total, edges_marked, trees_formed, mesh_made, table_fault, closed_fault, job_fault, marks_fault, split_fault, split_mesh_after, numbers_with, numbers_kept, numbers_after}
+use Rattle.runs.specs.Outcome.{SplitTold, told_unless, edge_total, edges_marked, trees_formed, mesh_made, table_fault, closed_fault, job_fault, marks_fault, split_fault, split_mesh_after, numbers_with, numbers_kept, numbers_after}
 use Rattle.runs.specs.Calls.{state_of, offer}
 use Rattle.runs.specs.Runs.{GoesOn}
 use Rattle.runs.proofs.Parts.{marked_counted}
 use Rattle.runs.proofs.Going.{goes_on}
 use Rattle.runs.proofs.Splits.{Passed, passed, split_outcome_keeps}
-use Rattle.engine.specs.Calls.{call_fault}
+use Rattle.engine.specs.Calls.{call_fault, call_answer, call_mesh}
 
 -- an answer is what a split told that passed all checks, or the fault of one
 pub told_ok : (r : SplitTold) (o : Option Fault) (t : SplitTold) → ◌≡◌ {A = Result SplitTold Fault} (Ok r) (told_unless o t) → (o ≡ None) × (r ≡ t)
@@ -88,17 +88,17 @@ module _ {P D : Type 0} (k : Kind P D) (vr tr table : ℕ) (m : Mesh P) (n : Num
   same_fault : call_fault k vr tr table m V T bs ≡ split_fault k vr tr table m n bs
   same_fault i = call_fault k vr tr table m (v i) (t i) bs
 
-  pub accepted : (r : SplitTold) → ◌≡◌ {A = Result SplitTold Fault} (Ok r) (told_unless (call_fault k vr tr table m V T bs) (split_told (mesh_made k m bs) (edges_marked m bs) (trees_formed m bs))) → Accepted k vr tr table m n bs r.forest_edges r.trees
+  pub accepted : (r : SplitTold) → Ok r ≡ call_answer k vr tr table m V T bs → Accepted k vr tr table m n bs r.forest_edges r.trees
   accepted r e =
       let p = told_ok r (call_fault k vr tr table m V T bs) _ e in
       record { fine = sym same_fault ∙ p.0; edges = ap (λ x. x.forest_edges) p.1; trees = ap (λ x. x.trees) p.1 }
 
   -- a refusal leaves the numbers
-  pub numbers_same : {f : Fault} → ◌≡◌ {A = Result SplitTold Fault} (Err f) (told_unless (call_fault k vr tr table m V T bs) (split_told (mesh_made k m bs) (edges_marked m bs) (trees_formed m bs))) → n ≡ numbers_after k vr tr table m n bs
+  pub numbers_same : {f : Fault} → Err f ≡ call_answer k vr tr table m V T bs → n ≡ numbers_after k vr tr table m n bs
   numbers_same {f} e = ap (λ o. numbers_kept o n (numbers_with n (edges_marked m bs) (trees_formed m bs))) (sym (sym same_fault ∙ told_err f _ _ e))
 
   -- the call goes on every run
-  pub goes_further : {m' : Mesh P} → m' ≡ mesh_unless (call_fault k vr tr table m V T bs) m (mesh_made k m bs) → {n' : Numbers} → n' ≡ numbers_after k vr tr table m n bs
+  pub goes_further : {m' : Mesh P} → m' ≡ call_mesh k vr tr table m V T bs → {n' : Numbers} → n' ≡ numbers_after k vr tr table m n bs
       → GoesOn k vr tr (state_of m n) (offer bs table) (state_of m' n')
   goes_further {m'} e {n'} i =
       let a : m' ≡ split_mesh_after k vr tr table m n bs = e ∙ ap (λ o. mesh_unless o m (mesh_made k m bs)) same_fault in

@@ -1,0 +1,34 @@
+-- A split call, by its checks of the store and those of the record.
+use Rattle.std.proofs.Common.{◌≡◌, ℕ, ◌*◌, ◌/◌, List, Some, None, Option, sym, ◌∙◌}
+use Rattle.fault.specs.declared.fault.Fault.{Fault}
+use Rattle.fault.specs.Faults.{or_else}
+use Rattle.fault.proofs.Orders.{or_none}
+use Rattle.place.specs.Kinds.{Kind}
+use Rattle.mesh.specs.Closed.{Closed}
+use Rattle.mesh.specs.Meshes.{Mesh, vertex_total}
+use Rattle.runs.specs.Outcome.{edge_total, table_fault, closed_fault, record_fault}
+use Rattle.runs.proofs.Splits.{passed_closed}
+use Rattle.engine.specs.Calls.{call_fault, expected_fault}
+use Rattle.engine.proofs.Ordering.{found, passed, call_told}
+use Rattle.engine.proofs.Accepting.{edges_expected}
+
+-- the checks that do not ask for the record
+abbrev pub store_fault : {P : Type 0} → ℕ → ℕ → ℕ → Mesh P → ℕ → ℕ → Option Fault
+store_fault vr tr table m V T = or_else (table_fault vr tr table) (or_else (closed_fault m) (expected_fault m V T))
+
+-- where they find no fault, the mesh is closed and has its edges
+pub store_fine : {P : Type 0} (vr tr table : ℕ) (m : Mesh P) (V T : ℕ) → None ≡ store_fault vr tr table m V T → Closed (vertex_total m) m.triangles × (3 * T / 2 ≡ edge_total m)
+store_fine vr tr table m V T e =
+    let both = or_none (closed_fault m) (expected_fault m V T) (or_none (table_fault vr tr table) _ (sym e)).1 in
+    let closed = (passed_closed m both.0).closed in (closed, edges_expected m V T closed both.1)
+
+module _ {P D : Type 0} (k : Kind P D) (vr tr table : ℕ) (m : Mesh P) (V T : ℕ) (bs : List ℕ) where
+  rest : or_else (store_fault vr tr table m V T) (record_fault k vr tr m bs) ≡ call_fault k vr tr table m V T bs
+  rest = call_told (table_fault vr tr table) (closed_fault m) (expected_fault m V T) (record_fault k vr tr m bs)
+
+  pub store_refuses : {f : Fault} → Some f ≡ store_fault vr tr table m V T → Some f ≡ call_fault k vr tr table m V T bs
+  store_refuses e = found (record_fault k vr tr m bs) e ∙ rest
+
+  -- and then the record decides
+  pub record_decides : {o : Option Fault} → None ≡ store_fault vr tr table m V T → o ≡ record_fault k vr tr m bs → o ≡ call_fault k vr tr table m V T bs
+  record_decides e r = r ∙ passed e ∙ rest
