@@ -1,47 +1,96 @@
 // The lines that the program prints.
+use engine::Told;
 use fault::Fault;
 use job::Report;
-use std::io;
+use std::{fmt, io};
+use survey::Counts;
 
 pub fn print_usage(rt: &HostRuntime) -> io::Result<()> {
     println!(rt; "usage: levels < FILE")?;
-    println!(rt; "Reads a base sheet of grid places from standard input and prints")?;
-    println!(rt; "  BASE V E T                     its vertices, edges and triangles, or")?;
-    println!(rt; "  REFUSED 0 NUMBER LAYER SPOT    why it is refused, and then")?;
+    println!(rt; "Reads a base sheet of grid places and records from standard input, applies one")?;
+    println!(rt; "after another, and prints")?;
     println!(rt;
-        "  TOTAL 0 0 0                    the records carried out, their edges and trees."
+        "  BASE V E T                        the vertices, edges and triangles of the base,"
     )?;
-    println!(rt; "What follows the sheet is left unread.")
+    println!(rt;
+        "  SPLIT ITEM V E T F K              those after a record, its forest edges and trees,"
+    )?;
+    println!(rt;
+        "  REFUSED ITEM NUMBER LAYER SPOT    why the base (item 0) or a record is refused, and"
+    )?;
+    println!(rt;
+        "  TOTAL RECORDS F K                 the records carried out, their edges and trees."
+    )
 }
 
-// The base's counts, or why it is refused, item 0 of the input; then the total.
-pub fn print_report(rt: &HostRuntime, base: Result<Report, Fault>) -> io::Result<()> {
-    match base {
-        Ok(report) => {
-            print_base(rt, report)?;
-            print_total(rt, report.records, report.forest_edges, report.trees)
-        }
-        Err(fault) => {
-            print_refusal(rt, 0, fault)?;
-            print_total(rt, 0, 0, 0)
+// What is told of an item, with its number where it may be any, and of all at the end.
+#[derive(Clone, Copy)]
+pub enum Line {
+    Base(Counts),
+    Split(u32, Told),
+    Refused(u32, Fault),
+    Total {
+        records: u32,
+        forest_edges: u32,
+        trees: u32,
+    },
+}
+
+impl Line {
+    // The total where there is no base.
+    pub const NO_RECORDS: Line = Line::Total {
+        records: 0,
+        forest_edges: 0,
+        trees: 0,
+    };
+
+    pub fn total(report: Report) -> Line {
+        Line::Total {
+            records: report.records,
+            forest_edges: report.forest_edges,
+            trees: report.trees,
         }
     }
 }
 
-fn print_base(rt: &HostRuntime, base: Report) -> io::Result<()> {
-    println!(rt; "BASE {} {} {}", base.vertices, base.edges, base.triangles)
-}
-
-fn print_refusal(rt: &HostRuntime, item: u32, fault: Fault) -> io::Result<()> {
-    let layer = u8::from(fault.layer());
-    println!(rt;
-        "REFUSED {item} {} {layer} {}",
-        fault.number(),
-        fault.spot()
-    )
-}
-
-// The accepted records, and their forest edges and trees.
-fn print_total(rt: &HostRuntime, records: u32, forest_edges: u32, trees: u32) -> io::Result<()> {
-    println!(rt; "TOTAL {records} {forest_edges} {trees}")
+// By hand, since the program's lines have a format of their own.
+impl fmt::Display for Line {
+    fn fmt<W: fmt::Write>(&self, f: &mut fmt::Formatter<W>) -> fmt::Result {
+        match *self {
+            Line::Base(base) => {
+                write!(
+                    f,
+                    "BASE {} {} {}",
+                    base.vertices, base.edges, base.triangles
+                )
+            }
+            Line::Split(item, told) => {
+                let Told {
+                    vertices,
+                    edges,
+                    triangles,
+                    forest_edges,
+                    trees,
+                } = told;
+                write!(
+                    f,
+                    "SPLIT {item} {vertices} {edges} {triangles} {forest_edges} {trees}"
+                )
+            }
+            Line::Refused(item, fault) => {
+                let layer = u8::from(fault.layer());
+                write!(
+                    f,
+                    "REFUSED {item} {} {layer} {}",
+                    fault.number(),
+                    fault.spot()
+                )
+            }
+            Line::Total {
+                records,
+                forest_edges,
+                trees,
+            } => { write!(f, "TOTAL {records} {forest_edges} {trees}") }
+        }
+    }
 }
