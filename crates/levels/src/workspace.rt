@@ -1,5 +1,5 @@
 // What a job works on: a store and a work table.
-ghost use Rattle.std.specs.Prelude.{◌≡◌, [], IfOk};
+ghost use Rattle.std.specs.Prelude.{◌≡◌, [], length, IfOk};
 ghost use Rattle.place.specs.Grids.{grid_kind};
 ghost use Rattle.stores.specs.Chained.{chain_vertex_room, chain_triangle_room};
 ghost use Rattle.runs.specs.Jobs.{base_mesh, base_answer};
@@ -30,6 +30,7 @@ pub struct Workspace<'a> {
     table: [u32; TABLE_LENGTH],
     ghost vertex_room: { chain_vertex_room store ≡ 256 },
     ghost triangle_room: { chain_triangle_room store ≡ 512 },
+    ghost table_length: { length table ≡ 12288 },
 }
 
 impl<'a> Workspace<'a> {
