@@ -8,7 +8,7 @@ copy=$(mktemp -d)
 trap 'rm -rf "$copy"' EXIT
 cp -r crates crates.txt "$copy"
 mkdir -p "$copy/crates/misuse/src"
-echo 'misuse: fault place mesh edges stores survey sheet record forest runs job' >> "$copy/crates.txt"
+echo 'misuse: fault place mesh edges stores survey sheet record forest runs engine job' >> "$copy/crates.txt"
 cd "$copy/crates/misuse"
 failed=0
 for file in "$programs"/*.misuse; do

@@ -1,5 +1,5 @@
 -- The base that a base call accepted has counts.
-use Rattle.std.proofs.Common.{◌≡◌, ℕ, List, Some, None, Ok, Err, Option, Result, refl, sym, ap, ◌∙◌}
+use Rattle.std.proofs.Common.{◌≡◌, ℕ, List, Some, None, Ok, Err, Option, Result, refl, ap, ◌∙◌}
 use Rattle.fault.specs.declared.fault.Fault.{Fault}
 use Rattle.fault.proofs.Orders.{or_none}
 use Rattle.place.specs.Kinds.{Kind}
@@ -22,7 +22,6 @@ module _ {P D : Type 0} (k : Kind P D) (vr tr : ℕ) (m : Mesh P) (bs : List ℕ
       → ◌≡◌ {A = Result Counts Fault} (Err f) (surveyed (vertex_total after) after.triangles) → ⊥
   never_uncounted n after f e i j =
       let fine = no_fault n e in
-      let shape = (or_none (sheet_fault_within k vr tr bs) _ (or_none (empty_fault m) _ fine).1).0 in
       let there : after ≡ sheet_mesh k bs = i ∙ ap (λ (o : Option Fault). mesh_unless o m (sheet_mesh k bs)) fine in
       let sound = (or_none (sheet_fault_within k vr tr bs) _ (or_none (empty_fault m) _ fine).1).1 in
       let told = j ∙ ap (λ (x : Mesh P). surveyed (vertex_total x) x.triangles) there ∙ ap (λ (o : Option Fault). counted_unless o (vertex_total (sheet_mesh k bs)) (sheet_mesh k bs).triangles) sound in

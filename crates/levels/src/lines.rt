@@ -1,7 +1,6 @@
 // The lines that the program prints.
 use engine::Told;
 use fault::Fault;
-use job::Report;
 use std::{fmt, io};
 use survey::Counts;
 
@@ -23,7 +22,7 @@ pub fn print_usage(rt: &HostRuntime) -> io::Result<()> {
     )
 }
 
-// What is told of an item, with its number where it may be any, and of all at the end.
+// What is told of an item, with the item's number where it may be any, or of all records at the end.
 #[derive(Clone, Copy)]
 pub enum Line {
     Base(Counts),
@@ -43,14 +42,6 @@ impl Line {
         forest_edges: 0,
         trees: 0,
     };
-
-    pub fn total(report: Report) -> Line {
-        Line::Total {
-            records: report.records,
-            forest_edges: report.forest_edges,
-            trees: report.trees,
-        }
-    }
 }
 
 // By hand, since the program's lines have a format of their own.

@@ -11,7 +11,7 @@ mod workspace;
 
 use lines::print_usage;
 use play::play;
-use std::io::BufReader;
+use std::io::{BufReader, LineWriter};
 use std::{env, io};
 
 fn main(rt: HostRuntime) -> io::Result<()> {
@@ -19,5 +19,6 @@ fn main(rt: HostRuntime) -> io::Result<()> {
         return print_usage(&rt);
     }
     let mut input = BufReader::new(rt.alloc(), rt.stdin())?;
-    play(&mut input, &mut io::writer(&rt))
+    let mut output = LineWriter::new(rt.alloc(), io::writer(&rt))?;
+    play(&mut input, &mut output)
 }

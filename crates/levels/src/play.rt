@@ -20,7 +20,16 @@ pub fn play<R: Read, W: Write>(input: &mut R, output: &mut W) -> io::Result<()> 
         Ok((mut job, counts)) => {
             writeln!(output, "{}", Line::Base(counts))?;
             play_records(input, output, &mut buffer, &mut workspace, &mut job)?;
-            writeln!(output, "{}", Line::total(job.close().report()))
+            let report = job.close().report();
+            writeln!(
+                output,
+                "{}",
+                Line::Total {
+                    records: report.records,
+                    forest_edges: report.forest_edges,
+                    trees: report.trees,
+                }
+            )
         }
         Err(fault) => {
             writeln!(output, "{}", Line::Refused(0, fault))?;

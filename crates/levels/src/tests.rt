@@ -31,6 +31,15 @@ const PAIR: &[u8; 152] = b"\0\0\0\x94\x01\x01\0\0\0\x07\0\0\0\x08\
     \0\0\0\0\0\0\0\x06\0\0\0\x04\
     \0\0\0\x04\0\0\0\x06\0\0\0\x05";
 
+// What is printed more than once.
+const CUT_SHORT: &str = "REFUSED 0 10 2 0\nTOTAL 0 0 0\n";
+
+const UNKNOWN_VERSION: &str = "REFUSED 0 11 2 4\nTOTAL 0 0 0\n";
+
+const BLOCK_ALONE: &str = "BASE 4 6 4\nTOTAL 0 0 0\n";
+
+const RECORD_CUT_SHORT: &str = "BASE 4 6 4\nREFUSED 1 20 2 0\nTOTAL 0 0 0\n";
+
 // The record with these marks and two codes, all displacements 0.
 fn record(marks: u8, codes: u8) -> [u8; 36] {
     let mut bytes = [0u8; 36];
@@ -43,7 +52,7 @@ fn record(marks: u8, codes: u8) -> [u8; 36] {
     bytes
 }
 
-// The head of a grid sheet, with zeros behind it.
+// The head of a grid sheet (or, with no counts, of a record), with zeros behind it.
 fn head(follows: u32, vertices: u32, triangles: u32) -> [u8; 8200] {
     let mut bytes = [0u8; 8200];
     bytes[0..4].copy_from_slice(&follows.to_be_bytes());
@@ -54,64 +63,100 @@ fn head(follows: u32, vertices: u32, triangles: u32) -> [u8; 8200] {
     bytes
 }
 
-// What is printed of an input of these two pieces.
-fn printed(rt: &HostRuntime, first: &[u8], second: &[u8]) -> Result<String, Fail> {
+// Whether these lines are printed of an input of these two pieces.
+fn prints(rt: &HostRuntime, sheet: &[u8], records: &[u8], lines: &str) -> Result<bool, Fail> {
     let mut output = Vec::new(rt.alloc());
-    play(&mut first.chain(second), &mut output)?;
-    Ok(String::from_utf8(output)?)
+    play(&mut sheet.chain(records), &mut output)?;
+    Ok(output.as_slice() == lines.as_bytes())
 }
 
 #[test]
 fn bases(rt: HostRuntime) -> Result<(), Fail> {
+    assert!(rt; prints(&rt, b"", b"", CUT_SHORT)?);
+    assert!(rt; prints(&rt, b"\0\0\0", b"", CUT_SHORT)?);
+    assert!(rt; prints(&rt, &BLOCK[..85], b"", CUT_SHORT)?);
+    assert!(rt; prints(&rt, BLOCK, b"", BLOCK_ALONE)?);
+    assert!(rt; prints(&rt, PAIR, b"", "REFUSED 0 19 3 0\nTOTAL 0 0 0\n")?);
     let mut another = *BLOCK;
     another[4] = 2;
+    assert!(rt; prints(&rt, &another, b"", UNKNOWN_VERSION)?);
+    assert!(rt; prints(&rt, &another, &record(0x90, 0x80), UNKNOWN_VERSION)?);
+    Ok(())
+}
+
+#[test]
+fn limits_of_bases(rt: HostRuntime) -> Result<(), Fail> {
     let longest = head(8188, 3, 2);
+    assert!(rt;
+        prints(
+            &rt,
+            &longest[..8192],
+            b"",
+            "REFUSED 0 14 2 0\nTOTAL 0 0 0\n"
+        )?
+    );
     let longer = head(8189, 3, 2);
+    assert!(rt; prints(&rt, &longer[..8193], b"", CUT_SHORT)?);
     let vertices = head(1576, 257, 2);
+    assert!(rt; prints(&rt, &vertices, b"", "REFUSED 0 5 1 0\nTOTAL 0 0 0\n")?);
     let triangles = head(7702, 256, 513);
+    assert!(rt; prints(&rt, &triangles, b"", "REFUSED 0 6 1 0\nTOTAL 0 0 0\n")?);
     let full = head(7690, 256, 512);
-    let cases: [(&[u8], &str); 11] = [
-        (b"", "REFUSED 0 10 2 0"),
-        (b"\0\0\0", "REFUSED 0 10 2 0"),
-        (&BLOCK[..85], "REFUSED 0 10 2 0"),
-        (BLOCK, "BASE 4 6 4"),
-        (&another, "REFUSED 0 11 2 4"),
-        (PAIR, "REFUSED 0 19 3 0"),
-        (&longest[..8192], "REFUSED 0 14 2 0"),
-        (&longer[..8193], "REFUSED 0 10 2 0"),
-        (&vertices, "REFUSED 0 5 1 0"),
-        (&triangles, "REFUSED 0 6 1 0"),
-        (&full, "REFUSED 0 16 3 0"),
-    ];
-    for (sheet, line) in cases {
-        let expected = format!(in rt.alloc(); "{line}\nTOTAL 0 0 0\n")?;
-        assert_eq!(rt; printed(&rt, sheet, b"")?, expected);
-    }
+    assert!(rt; prints(&rt, &full[..7694], b"", "REFUSED 0 16 3 0\nTOTAL 0 0 0\n")?);
     Ok(())
 }
 
 #[test]
 fn records(rt: HostRuntime) -> Result<(), Fail> {
     let split = record(0x90, 0x80);
-    let mut short = [0u8; 40];
-    short[4..].copy_from_slice(&split);
+    assert!(rt;
+        prints(
+            &rt,
+            BLOCK,
+            &split,
+            "BASE 4 6 4\nSPLIT 1 5 9 6 2 1\nTOTAL 1 2 1\n"
+        )?
+    );
+    let ringed = record(0xD0, 0x80);
+    assert!(rt;
+        prints(
+            &rt,
+            BLOCK,
+            &ringed,
+            "BASE 4 6 4\nREFUSED 1 26 3 3\nTOTAL 0 0 0\n"
+        )?
+    );
     let mut below = split;
-    below[34..].fill(0xFF);
-    let mut longer = [0u8; 8200];
-    longer[..4].copy_from_slice(&8189u32.to_be_bytes());
-    let cases: [(&[u8], &str); 8] = [
-        (b"\0\0", "REFUSED 1 20 2 0\nTOTAL 0 0 0\n"),
-        (&split[..35], "REFUSED 1 20 2 0\nTOTAL 0 0 0\n"),
-        (&longer, "REFUSED 1 20 2 0\nTOTAL 0 0 0\n"),
-        (&short, "REFUSED 1 20 2 0\nSPLIT 2 5 9 6 2 1\nTOTAL 1 2 1\n"),
-        (&record(0xD0, 0x80), "REFUSED 1 26 3 3\nTOTAL 0 0 0\n"),
-        (&record(0x90, 0x40), "REFUSED 1 33 4 4\nTOTAL 0 0 0\n"),
-        (&below, "REFUSED 1 34 5 4\nTOTAL 0 0 0\n"),
-        (&split, "SPLIT 1 5 9 6 2 1\nTOTAL 1 2 1\n"),
-    ];
-    for (records, lines) in cases {
-        let expected = format!(in rt.alloc(); "BASE 4 6 4\n{lines}")?;
-        assert_eq!(rt; printed(&rt, BLOCK, records)?, expected);
-    }
+    below[34..36].fill(0xFF);
+    assert!(rt;
+        prints(
+            &rt,
+            BLOCK,
+            &below,
+            "BASE 4 6 4\nREFUSED 1 34 5 4\nTOTAL 0 0 0\n"
+        )?
+    );
+    let mut later = [0u8; 40];
+    later[4..40].copy_from_slice(&split);
+    let lines = "BASE 4 6 4\nREFUSED 1 20 2 0\nSPLIT 2 5 9 6 2 1\nTOTAL 1 2 1\n";
+    assert!(rt; prints(&rt, BLOCK, &later, lines)?);
+    Ok(())
+}
+
+#[test]
+fn limits_of_records(rt: HostRuntime) -> Result<(), Fail> {
+    assert!(rt; prints(&rt, BLOCK, b"\0\0", RECORD_CUT_SHORT)?);
+    assert!(rt; prints(&rt, BLOCK, &record(0x90, 0x80)[..35], RECORD_CUT_SHORT)?);
+    let longest = head(8188, 0, 0);
+    assert!(rt;
+        prints(
+            &rt,
+            BLOCK,
+            &longest[..8192],
+            "BASE 4 6 4\nREFUSED 1 25 3 0\nTOTAL 0 0 0\n"
+        )?
+    );
+    let longer = head(8189, 0, 0);
+    assert!(rt; prints(&rt, BLOCK, &longer[..8193], RECORD_CUT_SHORT)?);
     Ok(())
 }
