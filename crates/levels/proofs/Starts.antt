@@ -5,7 +5,7 @@ use Rattle.fault.proofs.Orders.{or_none}
 use Rattle.place.specs.Kinds.{Kind}
 use Rattle.mesh.specs.Meshes.{Mesh, vertex_total}
 use Rattle.survey.specs.declared.counts.Counts.{Counts}
-use Rattle.survey.specs.Survey.{survey_fault, counted_unless, surveyed}
+use Rattle.survey.specs.Survey.{counted_unless, surveyed}
 use Rattle.sheet.specs.Content.{sheet_mesh, sheet_fault_within}
 use Rattle.runs.specs.Jobs.{Numbers, empty_fault, base_fault, base_numbers, base_mesh, base_answer, mesh_unless, numbers_unless}
 
