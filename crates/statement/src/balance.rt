@@ -1,5 +1,7 @@
 // Both sides, and how they compare.
-ghost use Rattle.std.specs.Prelude.{◌≡◌};
+ghost use Rattle.std.specs.Prelude.{◌≡◌, ◌&&◌, length, map, IfOk, IfSome, is_some, is_none};
+ghost use Rattle.runs.specs.Jobs.{base_fault};
+ghost use Rattle.statement.specs.Statements.{Settled};
 
 use crate::side::{Side, play};
 use job::{Comparison, compare};
@@ -21,8 +23,14 @@ pub fn settle<P: Place, S: GrowingStore<Kind = P>, R: GrowingStore<Kind = P>>(
     maker_store: &mut S,
     shop_store: &mut R,
     table: &mut [u32],
-    shares: Shares<'_>,
-) -> io::Result<Option<Comparison>> {
+    shares: &Shares<'_>,
+) -> io::Result<Option<Comparison>>
+    ensures answer { IfOk result (λ o. is_some o
+        ≡ (is_none (base_fault P.Place.kind (S.GrowingStore.vertex_room maker_store.old) (S.GrowingStore.triangle_room maker_store.old) (S.ReadingSurface.mesh maker_store.old) shares.now.base.now)
+        && is_none (base_fault P.Place.kind (R.GrowingStore.vertex_room shop_store.old) (R.GrowingStore.triangle_room shop_store.old) (R.ReadingSurface.mesh shop_store.old) shares.now.base.now))) }
+    ensures settled { IfOk result (λ o. IfSome o (Settled P.Place.kind (S.GrowingStore.vertex_room maker_store.old) (S.GrowingStore.triangle_room maker_store.old) (R.GrowingStore.vertex_room shop_store.old) (R.GrowingStore.triangle_room shop_store.old)
+        (length table.old) shares.now.base.now (map (λ r. r.now) shares.now.lodged.now) (map (λ r. r.now) shares.now.drawn.now))) }
+{
     let Some(maker) = play(
         rt,
         Side::Maker,

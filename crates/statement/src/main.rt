@@ -27,7 +27,7 @@ const TABLE_LENGTH: usize = 16 * (VERTEX_CAPACITY + TRIANGLE_CAPACITY);
 const INPUT_LIMIT: u64 = 1_048_576;
 
 // The statement of a model whose places have this kind.
-fn state<P: Place>(rt: &HostRuntime, shares: Shares<'_>) -> io::Result<()> {
+fn state<P: Place>(rt: &HostRuntime, shares: &Shares<'_>) -> io::Result<()> {
     let mut triangles = [ChainTriangle::UNUSED; TRIANGLE_CAPACITY];
     let mut vertices = [ChainVertex::UNUSED; VERTEX_CAPACITY];
     let mut maker_store = ChainStore::<P>::new(&mut triangles, &mut vertices);
@@ -56,8 +56,8 @@ fn main(rt: HostRuntime) -> io::Result<()> {
         drawn: draw.from(records.as_slice()),
     };
     if byte_at(base, 5) == FloatPlace::KIND {
-        state::<FloatPlace>(&rt, shares)
+        state::<FloatPlace>(&rt, &shares)
     } else {
-        state::<Grid>(&rt, shares)
+        state::<Grid>(&rt, &shares)
     }
 }

@@ -1,6 +1,4 @@
 // The items of a model: a sheet, then records.
-ghost use Rattle.std.specs.Prelude.{◌≡◌};
-
 use place::word_at;
 
 // The items that the bytes hold, one after another. An item that is cut short is handed out as it is: its bytes are fewer
@@ -11,18 +9,25 @@ pub struct Items<'a> {
 }
 
 impl<'a> Items<'a> {
-    pub fn of(bytes: &'a [u8]) -> Items<'a> {
+    ghost use Rattle.std.specs.Prelude.{◌≡◌};
+    ghost use Rattle.statement.specs.Items.{items_in, items_left};
+
+    pub fn of(bytes: &'a [u8]) -> Items<'a>
+        ensures { items_left result ≡ items_in bytes.now }
+    {
         Items { rest: bytes }
     }
 }
 
 impl<'a> Iterator for Items<'a> {
-    ghost use Rattle.std.specs.Prelude.{length};
-    ghost use Rattle.std.specs.Iterator.{at_most};
+    ghost use Rattle.std.specs.Iterator.{YieldsFirstRef, item_count};
+    ghost use Rattle.statement.specs.Items.{items_left};
 
     type Item = &'a [u8];
 
-    ghost remaining = { λ s. at_most (length s.rest.now) };
+    ghost next_gives = { YieldsFirstRef items_left };
+
+    ghost remaining = { item_count items_left };
 
     fn next(&mut self) -> Option<&'a [u8]> {
         if self.rest.is_empty() {

@@ -1,5 +1,11 @@
 // A side: who takes a base on a store of their own, and has records carried out on it.
-ghost use Rattle.std.specs.Prelude.{◌≡◌};
+ghost use Rattle.std.specs.Prelude.{◌≡◌, length, map, IfOk, IfSome, is_some, is_none};
+ghost use Rattle.mesh.specs.Growth.{SameRoom};
+ghost use Rattle.runs.specs.Jobs.{base_fault};
+ghost use Rattle.runs.specs.Calls.{state_of};
+ghost use Rattle.runs.specs.Runs.{after, Run};
+ghost use Rattle.job.specs.Answers.{job_of};
+ghost use Rattle.statement.specs.Sides.{offers};
 
 use crate::lines::print_refusal;
 use job::{Running, open};
@@ -30,7 +36,10 @@ fn carry_out<P: Place, S: GrowingStore<Kind = P>>(
     store: &mut S,
     table: &mut [u32],
     records: &[&[u8]],
-) -> io::Result<()> {
+) -> io::Result<()>
+    ensures state { IfOk result (λ _. state_of (S.ReadingSurface.mesh store.new) (job_of job.new)
+        ≡ after P.Place.kind (S.GrowingStore.vertex_room store.old) (S.GrowingStore.triangle_room store.old) (state_of (S.ReadingSurface.mesh store.old) (job_of job.old)) (offers (length table.old) (map (λ r. r.now) records.now))) }
+{
     for (i, record) in records.iter().enumerate() {
         if let Err(fault) = job.split(store, table, record) {
             print_refusal(rt, side, i + 1, fault)?;
@@ -47,7 +56,10 @@ pub fn play<P: Place, S: GrowingStore<Kind = P>>(
     table: &mut [u32],
     base: &[u8],
     records: &[&[u8]],
-) -> io::Result<Option<Running>> {
+) -> io::Result<Option<Running>>
+    ensures answer { IfOk result (λ o. is_some o ≡ is_none (base_fault P.Place.kind (S.GrowingStore.vertex_room store.old) (S.GrowingStore.triangle_room store.old) (S.ReadingSurface.mesh store.old) base.now)) }
+    ensures run { IfOk result (λ o. IfSome o (λ job. Run P.Place.kind (S.GrowingStore.vertex_room store.old) (S.GrowingStore.triangle_room store.old) base.now (offers (length table.old) (map (λ r. r.now) records.now)) (state_of (S.ReadingSurface.mesh store.new) (job_of job)))) }
+{
     match open().base(store, base) {
         Ok(mut job) => {
             carry_out(rt, side, &mut job, store, table, records)?;

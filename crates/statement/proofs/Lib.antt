@@ -1,0 +1,3 @@
+mod Items
+mod Bases
+mod Settling

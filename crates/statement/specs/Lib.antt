@@ -1,0 +1,3 @@
+pub mod Items
+pub mod Sides
+pub mod Statements
