@@ -1,3 +1,4 @@
 mod Items
+mod Drawing
 mod Bases
 mod Settling

@@ -1,5 +1,5 @@
 -- The statement of two jobs, of a maker and a shop that took the same sheet.
-use Rattle.std.proofs.Common.{◌≡◌, ℕ, List, refl, sym, ap, ◌∙◌, subst}
+use Rattle.std.proofs.Common.{◌≡◌, ℕ, Bool, true, false, ◌&&◌, List, Option, Result, IfOk, IfSome, is_some, refl, sym, ap, ◌∙◌, subst}
 use Rattle.place.specs.Kinds.{Kind}
 use Rattle.sheet.specs.Content.{sheet_mesh}
 use Rattle.runs.specs.Calls.{State}
@@ -27,3 +27,17 @@ module _ {P D : Type 0} (k : Kind P D) (va ta vb tb table : ℕ) (sheet : List �
         first_balances = balances va ta sheet xs one;
         second_balances = others vb tb sheet ys two;
       }
+
+-- one check of a base, where both sides' checks are the same
+pub one_answer : {X E : Type 0} (r : Result (Option X) E) (x y b : Bool) → x ≡ b → y ≡ b → IfOk r (λ o. is_some o ≡ (x && y)) → IfOk r (λ o. is_some o ≡ b)
+one_answer r x y b e f h = subst (λ z. IfOk r (λ o. is_some o ≡ z)) ((λ i. e i && f i) ∙ both_same b) h
+  where
+    both_same : (z : Bool) → (z && z) ≡ z
+    both_same true = refl
+    both_same false = refl
+
+-- what is settled does not hang on how the numbers and the records are written
+pub settled_as : {P D E : Type 0} (k : Kind P D) (sheet : List ℕ) {va ta vb tb table va' ta' vb' tb' table' : ℕ} {lodged drawn lodged' drawn' : List (List ℕ)}
+    → va ≡ va' → ta ≡ ta' → vb ≡ vb' → tb ≡ tb' → table ≡ table' → lodged ≡ lodged' → drawn ≡ drawn'
+    → (r : Result (Option Comparison) E) → IfOk r (λ o. IfSome o (Settled k va ta vb tb table sheet lodged drawn)) → IfOk r (λ o. IfSome o (Settled k va' ta' vb' tb' table' sheet lodged' drawn'))
+settled_as k sheet a b c d t x y r h = subst (λ X. X) (λ i. IfOk r (λ o. IfSome o (Settled k (a i) (b i) (c i) (d i) (t i) sheet (x i) (y i)))) h

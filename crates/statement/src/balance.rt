@@ -1,13 +1,25 @@
 // Both sides, and how they compare.
-ghost use Rattle.std.specs.Prelude.{◌≡◌, ◌&&◌, length, map, IfOk, IfSome, is_some, is_none};
+ghost use Rattle.std.specs.Prelude.{◌≡◌, ◌&&◌, [], length, map, IfOk, IfSome, is_some, is_none};
+ghost use Rattle.mesh.specs.Meshes.{mesh_of};
 ghost use Rattle.runs.specs.Jobs.{base_fault};
+ghost use Rattle.statement.specs.Draws.{drawn};
 ghost use Rattle.statement.specs.Statements.{Settled};
 
+use crate::draw::Draw;
+use crate::model::Model;
 use crate::side::{Side, play};
 use job::{Comparison, compare};
-use mesh::GrowingStore;
+use mesh::{GrowingStore, Triangle};
 use place::Place;
 use std::io;
+use stores::{ChainStore, ChainTriangle, ChainVertex, ListStore, VertexRecord};
+
+// What each store holds at most.
+const VERTEX_CAPACITY: usize = 1024;
+
+const TRIANGLE_CAPACITY: usize = 2048;
+
+const TABLE_LENGTH: usize = 16 * (VERTEX_CAPACITY + TRIANGLE_CAPACITY);
 
 // The sheet, and the records that each side has carried out.
 #[derive(Clone, Copy)]
@@ -46,4 +58,29 @@ pub fn settle<P: Place, S: GrowingStore<Kind = P>, R: GrowingStore<Kind = P>>(
         return Ok(None);
     };
     Ok(Some(compare(&maker, maker_store, &shop, shop_store)))
+}
+
+// Both levels of a model, the maker on a chain store and the shop on a list store; none if its base is refused.
+pub fn settle_model<P: Place>(
+    rt: &HostRuntime,
+    model: &Model<'_>,
+    draw: Draw,
+) -> io::Result<Option<Comparison>>
+    ensures answer { IfOk result (λ o. is_some o ≡ is_none (base_fault P.Place.kind 1024 2048 (mesh_of [] []) model.now.base.now)) }
+    ensures settled { IfOk result (λ o. IfSome o (Settled P.Place.kind 1024 2048 1024 2048 49152 model.now.base.now (map (λ r. r.now) model.now.records.items) (drawn draw (map (λ r. r.now) model.now.records.items)))) }
+{
+    let records = model.records.as_slice();
+    let shares = Shares {
+        base: model.base,
+        lodged: records,
+        drawn: draw.from(records),
+    };
+    let mut triangles = [ChainTriangle::UNUSED; TRIANGLE_CAPACITY];
+    let mut vertices = [ChainVertex::UNUSED; VERTEX_CAPACITY];
+    let mut maker_store = ChainStore::<P>::new(&mut triangles, &mut vertices);
+    let mut triangles = [Triangle { a: 0, b: 0, c: 0 }; TRIANGLE_CAPACITY];
+    let mut vertices = [VertexRecord::UNUSED; VERTEX_CAPACITY];
+    let mut shop_store = ListStore::<P>::new(&mut triangles, &mut vertices);
+    let mut table = [0u32; TABLE_LENGTH];
+    settle(rt, &mut maker_store, &mut shop_store, &mut table, &shares)
 }

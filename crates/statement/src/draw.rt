@@ -9,6 +9,9 @@ pub enum Draw {
 }
 
 impl Draw {
+    ghost use Rattle.std.specs.Prelude.{◌≡◌};
+    ghost use Rattle.statement.specs.Draws.{drawn};
+
     // As the arguments say; none if they say something else.
     pub fn requested(rt: &HostRuntime) -> io::Result<Option<Draw>> {
         let mut args = env::args(rt)?.skip(1);
@@ -21,7 +24,9 @@ impl Draw {
         Ok(count.parse().ok().map(Draw::First))
     }
 
-    pub fn from<'a, 'b>(self, records: &'b [&'a [u8]]) -> &'b [&'a [u8]] {
+    pub fn from<'a, 'b>(self, records: &'b [&'a [u8]]) -> &'b [&'a [u8]]
+        ensures { result.now ≡ drawn self records.now }
+    {
         let count = match self {
             Draw::Half => records.len() / 2,
             Draw::First(count) => count.min(records.len()),
