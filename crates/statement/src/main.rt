@@ -6,6 +6,8 @@ mod draw;
 mod lines;
 mod model;
 mod side;
+#[cfg(test)]
+mod tests;
 
 use balance::settle_model;
 use draw::Draw;
