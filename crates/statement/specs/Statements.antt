@@ -4,8 +4,7 @@ use Rattle.place.specs.Kinds.{Kind}
 use Rattle.sheet.specs.Content.{sheet_mesh}
 use Rattle.runs.specs.Statement.{BothKept}
 use Rattle.job.specs.declared.comparing.Comparison.{Comparison}
-use Rattle.job.specs.Balance.{balanced}
-use Rattle.job.specs.Levels.{level_of}
+use Rattle.job.specs.Levels.{level_of, level_balances}
 use Rattle.statement.specs.Sides.{offers, played}
 
 -- From one sheet the maker has carried out the records lodged, on a store with room for va vertices and ta triangles, the shop
@@ -18,5 +17,5 @@ pub record Settled {P D : Type 0} (k : Kind P D) (va ta vb tb table : ℕ) (shee
   pub first : c.first ≡ level_of (played k va ta table sheet lodged).mesh (played k va ta table sheet lodged).numbers
   pub second : c.second ≡ level_of (played k vb tb table sheet drawn).mesh (played k vb tb table sheet drawn).numbers
   -- what is counted is what the tallies tell
-  pub first_balances : balanced c.first.found c.first.told ≡ true
-  pub second_balances : balanced c.second.found c.second.told ≡ true
+  pub first_balances : level_balances c.first ≡ true
+  pub second_balances : level_balances c.second ≡ true
