@@ -1,6 +1,5 @@
 // A side: who takes a base on a store of their own, and has records carried out on it.
 ghost use Rattle.std.specs.Prelude.{◌≡◌, length, map, IfOk, IfSome, is_some, is_none};
-ghost use Rattle.mesh.specs.Growth.{SameRoom};
 ghost use Rattle.runs.specs.Jobs.{base_fault};
 ghost use Rattle.runs.specs.Calls.{state_of};
 ghost use Rattle.runs.specs.Runs.{after, Run};
@@ -37,7 +36,7 @@ fn carry_out<P: Place, S: GrowingStore<Kind = P>>(
     table: &mut [u32],
     records: &[&[u8]],
 ) -> io::Result<()>
-    ensures state { IfOk result (λ _. state_of (S.ReadingSurface.mesh store.new) (job_of job.new)
+    ensures { IfOk result (λ _. state_of (S.ReadingSurface.mesh store.new) (job_of job.new)
         ≡ after P.Place.kind (S.GrowingStore.vertex_room store.old) (S.GrowingStore.triangle_room store.old) (state_of (S.ReadingSurface.mesh store.old) (job_of job.old)) (offers (length table.old) (map (λ r. r.now) records.now))) }
 {
     for (i, record) in records.iter().enumerate() {
