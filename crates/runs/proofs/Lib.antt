@@ -1,7 +1,7 @@
 pub mod Parts
 pub mod Figures
 pub mod Splits
-pub mod Trust
+pub mod RightStore
 pub mod Whole
 pub mod Going
 pub mod Never

@@ -19,7 +19,7 @@ use Rattle.runs.specs.Parts.{record_marks, record_codes}
 use Rattle.runs.specs.Outcome as Outcome
 use Rattle.runs.specs.Outcome.{edge_total, table_fault, closed_fault, job_fault, vertex_room_fault, triangle_room_fault, codes_fault, displacements_fault, record_fault}
 use Rattle.runs.specs.Splits.{NeverTooShort}
-use Rattle.runs.proofs.Trust.{rank}
+use Rattle.runs.proofs.RightStore.{rank}
 use Rattle.runs.proofs.Splits.{passed_closed}
 
 -- no fault, or one with a number below 32

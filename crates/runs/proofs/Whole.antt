@@ -24,9 +24,9 @@ use Rattle.runs.specs.Figures.{euler}
 use Rattle.runs.specs.Calls.{State, Call, offer, ask, write_sheet, Question, how_many_vertices, how_many_triangles, which_corners, which_place, which_parent, which_triangle, which_counts, which_edge, which_ancestor, answer, question_answer, next}
 use Rattle.runs.specs.Runs.{empty_mesh, begun, after, answers, if_accepted, share, summed, Run}
 use Rattle.runs.specs.Reports.{ReportTrue, ReportsTrue}
-use Rattle.runs.specs.Statement.{Trusts, Kept, SameBase, AnyTwoJobs}
+use Rattle.runs.specs.Statement.{FindsNoWrongStore, Kept, SameBase, BothKept, AnyTwoJobs}
 use Rattle.runs.proofs.Splits.{split_outcome_keeps}
-use Rattle.runs.proofs.Trust.{safe_split, safe_survey, safe_writing, safe_answer}
+use Rattle.runs.proofs.RightStore.{safe_split, safe_survey, safe_writing, safe_answer}
 
 -- what every state of a run from a base mesh keeps
 pub record Held {P : Type 0} (base : Mesh P) (m : Mesh P) (n : Numbers) : Type 0 where
@@ -95,25 +95,25 @@ module _ {P D : Type 0} (k : Kind P D) (law : Lawful k) (vertex_room triangle_ro
       let d = h.base_triangles in
       cond-true _ None (Some StoreNotOfJob) (and_from _ _ (eq-eqb (vertex_total m) (vertices_now n) (omega arith)) (eq-eqb (triangle_total m) (triangles_now n) (omega arith)))
 
-  question_trusts : (m : Mesh P) (q : Question) → Trusts (question_answer m q)
-  question_trusts m how_many_vertices = safe_answer
-  question_trusts m how_many_triangles = safe_answer
-  question_trusts m (which_corners t) = safe_answer
-  question_trusts m (which_place v) = safe_answer
-  question_trusts m (which_parent v) = safe_answer
-  question_trusts m (which_triangle u v) = safe_answer
-  question_trusts m which_counts = safe_survey (vertex_total m) m.triangles
-  question_trusts m (which_edge e) = safe_answer
-  question_trusts m (which_ancestor v) = safe_answer
+  question_right : (m : Mesh P) (q : Question) → FindsNoWrongStore (question_answer m q)
+  question_right m how_many_vertices = safe_answer
+  question_right m how_many_triangles = safe_answer
+  question_right m (which_corners t) = safe_answer
+  question_right m (which_place v) = safe_answer
+  question_right m (which_parent v) = safe_answer
+  question_right m (which_triangle u v) = safe_answer
+  question_right m which_counts = safe_survey (vertex_total m) m.triangles
+  question_right m (which_edge e) = safe_answer
+  question_right m (which_ancestor v) = safe_answer
 
-  answer_trusts : (s : State P) (c : Call) → Held base s.mesh s.numbers → Trusts (answer k vertex_room triangle_room s c)
-  answer_trusts s (offer bs table) h = safe_split k vertex_room triangle_room table s.mesh s.numbers bs (closed_passes s.mesh h.closed) (job_passes s.mesh s.numbers h)
-  answer_trusts s (ask q) h = question_trusts s.mesh q
-  answer_trusts s (write_sheet n) h = safe_writing k s.mesh n
+  answer_right : (s : State P) (c : Call) → Held base s.mesh s.numbers → FindsNoWrongStore (answer k vertex_room triangle_room s c)
+  answer_right s (offer bs table) h = safe_split k vertex_room triangle_room table s.mesh s.numbers bs (closed_passes s.mesh h.closed) (job_passes s.mesh s.numbers h)
+  answer_right s (ask q) h = question_right s.mesh q
+  answer_right s (write_sheet n) h = safe_writing k s.mesh n
 
-  answers_trust : (cs : List Call) (s : State P) → Held base s.mesh s.numbers → AllByRecursion Trusts (answers k vertex_room triangle_room s cs)
-  answers_trust [] s h = tt
-  answers_trust (c ∷ cs) s h = (answer_trusts s c h, answers_trust cs (next k vertex_room triangle_room s c) (next_held s c h))
+  answers_right : (cs : List Call) (s : State P) → Held base s.mesh s.numbers → AllByRecursion FindsNoWrongStore (answers k vertex_room triangle_room s cs)
+  answers_right [] s h = tt
+  answers_right (c ∷ cs) s h = (answer_right s c h, answers_right cs (next k vertex_room triangle_room s c) (next_held s c h))
 
 -- a tally that grows by what f counts in each accepted record is the sum of f over those
 module _ {P D : Type 0} (k : Kind P D) (vertex_room triangle_room : ℕ) (f : Mesh P → List ℕ → ℕ) (tally : Numbers → ℕ) (grows : (n : Numbers) (m : Mesh P) (bs : List ℕ) → tally (numbers_with n (edges_marked m bs) (trees_formed m bs)) ≡ tally n + f m bs) where
@@ -191,7 +191,7 @@ run_kept {P} {D} k law vr tr room bs cs e =
     let t = h.triangles in
     record {
       closed = h.closed.closed;
-      trusted = answers_trust k law vr tr room base cs s b;
+      right_store = answers_right k law vr tr room base cs s b;
       figure = h.figure;
       triangles = omega arith;
       forest_edges = omega arith;
@@ -207,8 +207,9 @@ ended k law vr tr bs cs s r = subst (λ t. Kept k vr tr (sheet_mesh k bs) cs t) 
 same_figure : {P Q : Type 0} (one : Mesh P) (two : Mesh Q) → SameBase one two → euler one ≡ euler two
 same_figure one two s = let v = s.vertices in let t = s.triangles in cc
 
-pub two_jobs : {P D Q C : Type 0} (k : Kind P D) (l : Kind Q C) → Lawful k → Lawful l → AnyTwoJobs k l
-two_jobs k l p q a b va ta vb tb sheet other xs ys f g same =
+both_kept : {P D Q C : Type 0} (k : Kind P D) (l : Kind Q C) → Lawful k → Lawful l → (va ta vb tb : ℕ) (sheet other : List ℕ) (xs ys : List Call) (a : State P) (b : State Q)
+    → Run k va ta sheet xs a → Run l vb tb other ys b → SameBase (sheet_mesh k sheet) (sheet_mesh l other) → BothKept k l va ta vb tb (sheet_mesh k sheet) (sheet_mesh l other) xs ys a b
+both_kept k l p q va ta vb tb sheet other xs ys a b f g same =
     let x = ended k p va ta sheet xs a f in
     let y = ended l q vb tb other ys b g in
     let one = sheet_mesh k sheet in
@@ -222,6 +223,14 @@ two_jobs k l p q a b va ta vb tb sheet other xs ys f g same =
       one_figure = x.figure ∙ e ∙ sym y.figure;
       same_corners = λ i h. x.base_triangles i h ∙ ap (λ (us : List Tri). slice_get us i) same.triangles ∙ sym (y.base_triangles i (omega arith));
     }
+
+pub two_jobs : {P D Q C : Type 0} (k : Kind P D) (l : Kind Q C) → Lawful k → Lawful l → AnyTwoJobs k l
+two_jobs k l p q a b va ta vb tb sheet other xs ys f g same = record {
+  now = both_kept k l p q va ta vb tb sheet other xs ys a b f g same;
+  before = λ ps qs rs ss e h.
+      both_kept k l p q va ta vb tb sheet other ps rs (after k va ta (begun (sheet_mesh k sheet)) ps) (after l vb tb (begun (sheet_mesh l other)) rs)
+      (record { room = f.room; accepted = f.accepted; ends = refl }) (record { room = g.room; accepted = g.accepted; ends = refl }) same;
+}
 
 run_report : {P D : Type 0} (k : Kind P D) → Lawful k → (vertex_room triangle_room : ℕ) → RoomInLimits vertex_room triangle_room → (bs : List ℕ) (cs : List Call) → base_fault k vertex_room triangle_room empty_mesh bs ≡ None → ReportTrue k vertex_room triangle_room bs cs (after k vertex_room triangle_room (begun (sheet_mesh k bs)) cs)
 run_report {P} {D} k law vr tr room bs cs e =

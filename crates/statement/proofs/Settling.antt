@@ -19,7 +19,7 @@ module _ {P D : Type 0} (k : Kind P D) (va ta vb tb table : ℕ) (sheet : List �
       let m = sheet_mesh k sheet in
       let xs = offers table lodged in
       let ys = offers table drawn in
-      let kept = both va ta vb tb sheet sheet xs ys one two (record { vertices = refl; triangles = refl }) in
+      let kept = (both va ta vb tb sheet sheet xs ys one two (record { vertices = refl; triangles = refl })).now in
       record {
         both = subst (λ s. BothKept k k va ta vb tb m m xs ys s (played k vb tb table sheet drawn)) (sym one.ends) (subst (λ t. BothKept k k va ta vb tb m m xs ys a t) (sym two.ends) kept);
         first = first ∙ ap (λ s. level_of s.mesh s.numbers) (sym one.ends);
