@@ -57,6 +57,7 @@ impl<'a> Workspace<'a> {
         ensures run { IfOk result (λ s. Run grid_kind 256 512 sheet.now [] (state_of (mesh_in self.new) (job_of s.0))) }
     {
         let job = open().base(&mut self.store, sheet)?;
+        // This refuses no base, since the base call surveyed it.
         let counts = job.survey(&self.store)?;
         Ok((job, counts))
     }
