@@ -14,6 +14,7 @@ pub mod Finishing
 pub mod Fitting
 pub mod Gathered
 pub mod Laying
+pub mod Linking
 pub mod Listed
 pub mod Marked
 pub mod Meeting

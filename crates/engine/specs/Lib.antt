@@ -3,6 +3,7 @@ pub mod Clashes
 pub mod Corners
 pub mod Filling
 pub mod Joining
+pub mod Linking
 pub mod Loops
 pub mod Marking
 pub mod Places

@@ -6,6 +6,7 @@ mod clashes;
 mod codes;
 mod corners;
 mod edges;
+mod index;
 mod joining;
 mod loops;
 mod marking;
