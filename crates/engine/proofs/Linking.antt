@@ -8,7 +8,7 @@ use Rattle.std.proofs.lemmas.Bool.{cond-true, cond-false, ne_eqb, and_from, and_
 use Rattle.std.proofs.lemmas.List.{drop_all, drop-drop}
 use Rattle.std.proofs.lemmas.Option.{slice_get_within}
 use Rattle.mesh.specs.Triangles.{Tri, tri}
-use Rattle.mesh.specs.Sides.{Side, side, sides, Lies, corner_of, lies_here, side_from, side_of}
+use Rattle.mesh.specs.Sides.{Side, side, sides, Lies, lies_here, side_from, side_of}
 use Rattle.mesh.proofs.Tests.{none_some, some_inj}
 use Rattle.engine.specs.Linking.{link_from, Linked}
 

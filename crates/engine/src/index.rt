@@ -35,12 +35,7 @@ fn link_triangle(firsts: &mut [u32], ends: &mut [u32], nexts: &mut [u32], n: u32
 }
 
 // Links the sides of all triangles. From the last triangle to the first, so that links rise along a chain.
-fn link_triangles<S: ReadingSurface>(
-    s: &S,
-    firsts: &mut [u32],
-    ends: &mut [u32],
-    nexts: &mut [u32],
-)
+fn link_triangles<S: ReadingSurface>(s: &S, firsts: &mut [u32], ends: &mut [u32], nexts: &mut [u32])
     requires ends_room { length ends.old ≡ 3 * triangle_total (S.mesh s.now) }
     requires nexts_room { length nexts.old ≡ 3 * triangle_total (S.mesh s.now) }
     ensures { Linked (sides (S.mesh s.now).triangles) 0 firsts.new ends.new nexts.new }
@@ -55,6 +50,7 @@ fn link_triangles<S: ReadingSurface>(
 
 // A surface with a chain of sides for each vertex. Side k of triangle t has the number 3t + k, the link to side i is i + 1,
 // and 0 is the end.
+#[derive(Drop)]
 pub(crate) struct Index<'s, 't, S: ReadingSurface> {
     surface: &'s S,
     firsts: &'t [u32],
@@ -66,6 +62,13 @@ pub(crate) struct Index<'s, 't, S: ReadingSurface> {
 }
 
 impl<'s, 't, S: ReadingSurface> Index<'s, 't, S> {
+    // How many numbers an index has: one for each vertex, and two for each side.
+    pub(crate) fn size(surface: &S) -> usize
+        ensures { result ≡ vertex_total (S.mesh surface.now) + 6 * triangle_total (S.mesh surface.now) }
+    {
+        (surface.vertex_count() + 6 * surface.triangle_count()) as usize
+    }
+
     // Links the sides of a surface in the front of a table.
     pub(crate) fn new(surface: &'s S, table: &'t mut [u32]) -> Self
         requires { vertex_total (S.mesh surface.now) + 6 * triangle_total (S.mesh surface.now) ≤ length table.old }

@@ -1,4 +1,4 @@
-use Rattle.std.proofs.Common.{◌≡◌, ◌+◌, ◌*◌, subst, arith}
+use Rattle.std.proofs.Common.{subst, arith}
 use Rattle.mesh.specs.Sides.{sides}
 use Rattle.engine.specs.Linking.{Linked}
 use Rattle.engine.proofs.Linking.{sides_there}

@@ -10,7 +10,7 @@ use Rattle.engine.proofs.record_checks.check_places.Goals as goal
 pub first_refused-refused-requires-clause-numbered : goal.first_refused-refused-requires-clause-numbered
 first_refused-refused-requires-clause-numbered g c =
     let k = g.P.Place.kind in
-    let m = g.S.ReadingSurface.mesh c.args.store.now in
+    let m = g.S.ReadingSurface.mesh c.args.s.now in
     let bs = c.args.from.now.bytes.now in
     let x = c.args.from.now.edges in
     let e = c.requires.edges in
@@ -23,7 +23,7 @@ first_refused-refused-requires-clause-numbered g c =
 pub first_refused-refused-requires-clause-enough : goal.first_refused-refused-requires-clause-enough
 first_refused-refused-requires-clause-enough g c =
     let k = g.P.Place.kind in
-    let m = g.S.ReadingSurface.mesh c.args.store.now in
+    let m = g.S.ReadingSurface.mesh c.args.s.now in
     let bs = c.args.from.now.bytes.now in
     let x = c.args.from.now.edges in
     let e = c.requires.edges in
@@ -37,7 +37,7 @@ first_refused-refused-requires-clause-enough g c =
 pub returns-in-Some : goal.returns-in-Some
 returns-in-Some g c =
     let k = g.P.Place.kind in
-    let m = g.S.ReadingSurface.mesh c.args.store.now in
+    let m = g.S.ReadingSurface.mesh c.args.s.now in
     let bs = c.args.from.now.bytes.now in
     let x = c.args.from.now.edges in
     let e = c.requires.edges in
@@ -52,7 +52,7 @@ returns-in-Some g c =
 pub returns : goal.returns
 returns g c =
     let k = g.P.Place.kind in
-    let m = g.S.ReadingSurface.mesh c.args.store.now in
+    let m = g.S.ReadingSurface.mesh c.args.s.now in
     let bs = c.args.from.now.bytes.now in
     let x = c.args.from.now.edges in
     let e = c.requires.edges in

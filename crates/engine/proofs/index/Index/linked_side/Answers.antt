@@ -1,6 +1,5 @@
-use Rattle.std.proofs.Common.{◌≡◌, suc, ◌-◌, ◌<◌, length, arith}
-use Rattle.mesh.specs.Sides.{sides}
-use Rattle.engine.proofs.Linking.{seek_first, seek_within, seek_found, seek_next, seek_smaller, seek_none}
+use Rattle.std.proofs.Common.{◌≡◌, suc, ◌-◌, length, arith}
+use Rattle.engine.proofs.Linking.{seek_within, seek_found, seek_next, seek_smaller, seek_none}
 use Rattle.engine.proofs.index.Index.linked_side.Goals as goal
 
 pub bounds-self-i : goal.bounds-self-i
