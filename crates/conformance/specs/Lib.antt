@@ -1,2 +1,5 @@
 pub mod Answers
 pub mod Differences
+pub mod Verdicts
+pub mod Totals
+pub mod Offers

@@ -10,6 +10,8 @@ mod order;
 mod pairs;
 mod play;
 mod table;
+#[cfg(test)]
+mod tests;
 mod verdict;
 
 use anyhow::Context;

@@ -1,4 +1,10 @@
 // A case played on a pair of stores: a base, and records that are offered to its job.
+ghost use Rattle.std.specs.Prelude.{◌≡◌, IfOk};
+ghost use Rattle.runs.specs.Outcome.{split_answer};
+ghost use Rattle.job.specs.Answers.{job_of};
+ghost use Rattle.conformance.specs.Verdicts.{verdict_of};
+ghost use Rattle.conformance.specs.Offers.{ordered, answer_by};
+
 use crate::answer::{Answer, Refusal};
 use crate::counts::Counts;
 use crate::lines::{print_answer, print_base, print_refused_base, print_total};
@@ -16,7 +22,9 @@ const LEFT_OVER: u32 = 7;
 // No sheet is longer than an item of a table.
 const ITEM_LIMIT: usize = 65_536;
 
-fn compare<S: ReadingSurface>(store: &S, mesh: Mesh<'_>) -> Verdict {
+fn compare<S: ReadingSurface>(store: &S, mesh: Mesh<'_>) -> Verdict
+    ensures { result ≡ verdict_of S.Kind.Place.kind (S.ReadingSurface.mesh store.now) 65536 mesh.entry.sheet.now mesh.entry.parents.now }
+{
     let mut buffer = [0; ITEM_LIMIT];
     Verdict::of(store, mesh, &mut buffer)
 }
@@ -28,7 +36,9 @@ fn offer<P: Place, S: GrowingStore<Kind = P>>(
     store: &mut S,
     mesh: Mesh<'_>,
     step: Step<'_>,
-) -> Result<(Answer, Verdict), AllocError> {
+) -> Result<(Answer, Verdict), AllocError>
+    ensures { IfOk result (λ r. r.0 ≡ answer_by (split_answer P.Place.kind (S.GrowingStore.vertex_room store.old) (S.GrowingStore.triangle_room store.old) step.entry.order.table (ordered (S.ReadingSurface.mesh store.old) step.entry.order) (job_of job.old) step.entry.record.now)) }
+{
     let order = step.order;
     store.replace_corner(order.triangle, order.corner, order.vertex);
     let mut table = vec![in heap; LEFT_OVER; order.table]?;

@@ -1,6 +1,7 @@
 // Whether what came out is what the table has.
-ghost use Rattle.std.specs.Prelude.{◌≡◌, ◌↔◌, IsNone, IfSome};
+ghost use Rattle.std.specs.Prelude.{◌≡◌, ◌↔◌, length, IsNone};
 ghost use Rattle.conformance.specs.Differences.{same_bytes, other_parent, first_other_parent};
+ghost use Rattle.conformance.specs.Verdicts.{first_difference, sheet_within, verdict_of};
 
 use crate::table::Mesh;
 use mesh::ReadingSurface;
@@ -43,7 +44,7 @@ fn count_same(left: &[u8], right: &[u8]) -> usize
 // The first byte that differs, or where one of the two ends.
 fn first_difference(left: &[u8], right: &[u8]) -> Option<usize>
     ensures same { IsNone result ↔ (left.now ≡ right.now) }
-    ensures first { IfSome result (λ n. n ≡ same_bytes left.now right.now) }
+    ensures first { result ≡ first_difference left.now right.now }
 {
     (left != right).then_some(count_same(left, right))
 }
@@ -63,12 +64,22 @@ fn first_other_parent<S: ReadingSurface>(store: &S, parents: &[u8]) -> Option<u3
     (0..store.vertex_count()).find(|&v| is_other_parent(store, parents, v))
 }
 
+// The sheet of a store, written into the buffer; no bytes where that is too short.
+fn sheet_in<'a, S: ReadingSurface>(store: &S, buffer: &'a mut [u8]) -> &'a [u8]
+    ensures { result.now ≡ sheet_within S.Kind.Place.kind (S.ReadingSurface.mesh store.now) (length buffer.old) }
+{
+    match write_sheet(store, buffer) {
+        Ok(size) => &buffer[..size],
+        Err(_) => &[],
+    }
+}
+
 impl Verdict {
     // Of a store, by its sheet and parents. The buffer is for the sheet.
-    pub fn of<S: ReadingSurface>(store: &S, mesh: Mesh<'_>, buffer: &mut [u8]) -> Verdict {
-        let size = write_sheet(store, buffer).unwrap_or(0);
-        let sheet = buffer.get(..size).unwrap_or(&[]);
-        if let Some(byte) = first_difference(sheet, mesh.sheet) {
+    pub fn of<S: ReadingSurface>(store: &S, mesh: Mesh<'_>, buffer: &mut [u8]) -> Verdict
+        ensures { result ≡ verdict_of S.Kind.Place.kind (S.ReadingSurface.mesh store.now) (length buffer.old) mesh.entry.sheet.now mesh.entry.parents.now }
+    {
+        if let Some(byte) = first_difference(sheet_in(store, buffer), mesh.sheet) {
             return Verdict::Sheet(byte);
         }
         first_other_parent(store, mesh.parents).map_or(Verdict::Same, Verdict::Parent)
