@@ -19,7 +19,14 @@ pub fn print_usage(rt: &HostRuntime) -> io::Result<()> {
     )?;
     println!(rt;
         "  TOTAL RECORDS F K                 the records carried out, their edges and trees."
-    )
+    )?;
+    println!(rt;
+        "There is room for 256 vertices and 512 triangles. Each item has its length in its"
+    )?;
+    println!(rt;
+        "first four bytes, and 8,192 bytes at most with these. The reading ends at an item"
+    )?;
+    println!(rt; "that is longer or cut short.")
 }
 
 // What is told of an item, with the item's number where it may be any, or of all records at the end.
