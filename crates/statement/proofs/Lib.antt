@@ -1,4 +1,4 @@
 mod Items
-mod Drawing
+mod Selecting
 mod Bases
-mod Settling
+mod Comparing

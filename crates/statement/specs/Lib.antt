@@ -1,5 +1,5 @@
 pub mod Items
-pub mod Draws
+pub mod Selections
 pub mod Models
 pub mod Sides
 pub mod Statements

@@ -9,10 +9,10 @@ pub fn print_usage(rt: &HostRuntime) -> io::Result<()> {
     println!(rt; "usage: statement [RECORDS] < MODEL")?;
     println!(rt; "Reads a model from standard input: a base sheet, then records.")?;
     println!(rt;
-        "A maker takes the base on a chain store and lodges all records, a shop takes it on a"
+        "A maker takes the base on a chain store and carries out all records, a shop takes it on a"
     )?;
     println!(rt;
-        "list store and draws the first RECORDS of them, or the first half. Prints what is"
+        "list store and carries out the first RECORDS of them, or the first half. Prints what is"
     )?;
     println!(rt; "counted in each mesh, what each side's tallies tell, and whether they agree.")?;
     println!(rt;

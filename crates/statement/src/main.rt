@@ -1,19 +1,19 @@
 // Reads a model from standard input, has a maker and a shop take its base and carry out its records, and prints both levels.
 #![tactic(auto)]
 
-mod balance;
-mod draw;
+mod comparison;
 mod lines;
 mod model;
+mod selection;
 mod side;
 #[cfg(test)]
 mod tests;
 
-use balance::settle_model;
-use draw::Draw;
+use comparison::compare_model;
 use lines::{print_statement, print_usage};
 use model::Model;
 use place::{FloatPlace, Grid, Place, byte_at};
+use selection::Selection;
 use sheet::survey_sheet;
 use std::io;
 use std::io::Read;
@@ -21,23 +21,23 @@ use std::io::Read;
 const INPUT_LIMIT: u64 = 1_048_576;
 
 // The statement of a model whose places have this kind.
-fn state<P: Place>(rt: &HostRuntime, model: &Model<'_>, draw: Draw) -> io::Result<()> {
-    match settle_model::<P>(rt, model, draw)? {
+fn state<P: Place>(rt: &HostRuntime, model: &Model<'_>, selection: Selection) -> io::Result<()> {
+    match compare_model::<P>(rt, model, selection)? {
         Some(comparison) => print_statement(rt, survey_sheet::<P>(model.base), comparison),
         None => Ok(()),
     }
 }
 
 fn main(rt: HostRuntime) -> io::Result<()> {
-    let Some(draw) = Draw::requested(&rt)? else {
+    let Some(selection) = Selection::requested(&rt)? else {
         return print_usage(&rt);
     };
     let mut input = Vec::new(rt.alloc());
     rt.stdin().take(INPUT_LIMIT).read_to_end(&mut input)?;
     let model = Model::read(rt.alloc(), &input)?;
     if byte_at(model.base, 5) == FloatPlace::KIND {
-        state::<FloatPlace>(&rt, &model, draw)
+        state::<FloatPlace>(&rt, &model, selection)
     } else {
-        state::<Grid>(&rt, &model, draw)
+        state::<Grid>(&rt, &model, selection)
     }
 }

@@ -1,7 +1,7 @@
 // Both sides of small models, of both kinds of place.
-use crate::balance::settle_model;
-use crate::draw::Draw;
+use crate::comparison::compare_model;
 use crate::model::Model;
+use crate::selection::Selection;
 use job::{Comparison, Report};
 use place::{FloatPlace, Grid, Place};
 use std::test::Fail;
@@ -22,13 +22,13 @@ const BLOCK: &[u8; 170] = b"\0\0\0\x6a\x01\x02\0\0\0\x04\0\0\0\x04\
     \0\0\0\0\0\0\0\0\0\0\0\0\
     \0\0\0\0\0\0\0\0\0\0\0\0";
 
-fn settled<P: Place>(
+fn compared<P: Place>(
     rt: &HostRuntime,
     bytes: &[u8],
-    draw: Draw,
+    selection: Selection,
 ) -> Result<Option<Comparison>, Fail> {
     let model = Model::read(rt.alloc(), bytes)?;
-    Ok(settle_model::<P>(rt, &model, draw)?)
+    Ok(compare_model::<P>(rt, &model, selection)?)
 }
 
 fn counts(told: Report) -> (u32, u32, u32, u32) {
@@ -37,7 +37,7 @@ fn counts(told: Report) -> (u32, u32, u32, u32) {
 
 #[test]
 fn half_of_one_record(rt: HostRuntime) -> Result<(), Fail> {
-    let both = settled::<FloatPlace>(&rt, BLOCK, Draw::Half)?.ok_or("no base")?;
+    let both = compared::<FloatPlace>(&rt, BLOCK, Selection::Half)?.ok_or("no base")?;
     assert_eq!(rt; counts(both.first.told), (1, 5, 9, 6));
     assert_eq!(rt; counts(both.second.told), (0, 4, 6, 4));
     assert!(rt; both.first.balances() && both.second.balances());
@@ -46,7 +46,7 @@ fn half_of_one_record(rt: HostRuntime) -> Result<(), Fail> {
 
 #[test]
 fn more_than_there_are(rt: HostRuntime) -> Result<(), Fail> {
-    let both = settled::<FloatPlace>(&rt, BLOCK, Draw::First(2))?.ok_or("no base")?;
+    let both = compared::<FloatPlace>(&rt, BLOCK, Selection::First(2))?.ok_or("no base")?;
     assert_eq!(rt; counts(both.second.told), (1, 5, 9, 6));
     assert_eq!(rt; both.first.told, both.second.told);
     Ok(())
@@ -54,15 +54,15 @@ fn more_than_there_are(rt: HostRuntime) -> Result<(), Fail> {
 
 #[test]
 fn cut_short(rt: HostRuntime) -> Result<(), Fail> {
-    let both = settled::<FloatPlace>(&rt, &BLOCK[..169], Draw::Half)?.ok_or("no base")?;
+    let both = compared::<FloatPlace>(&rt, &BLOCK[..169], Selection::Half)?.ok_or("no base")?;
     assert_eq!(rt; counts(both.first.told), (0, 4, 6, 4));
-    assert!(rt; settled::<FloatPlace>(&rt, &BLOCK[..109], Draw::Half)?.is_none());
+    assert!(rt; compared::<FloatPlace>(&rt, &BLOCK[..109], Selection::Half)?.is_none());
     Ok(())
 }
 
 #[test]
 fn no_base(rt: HostRuntime) -> Result<(), Fail> {
-    assert!(rt; settled::<Grid>(&rt, b"", Draw::Half)?.is_none());
-    assert!(rt; settled::<Grid>(&rt, BLOCK, Draw::Half)?.is_none());
+    assert!(rt; compared::<Grid>(&rt, b"", Selection::Half)?.is_none());
+    assert!(rt; compared::<Grid>(&rt, BLOCK, Selection::Half)?.is_none());
     Ok(())
 }

@@ -2,11 +2,11 @@
 ghost use Rattle.std.specs.Prelude.{◌≡◌, ◌&&◌, [], length, map, IfOk, IfSome, is_some, is_none};
 ghost use Rattle.mesh.specs.Meshes.{mesh_of};
 ghost use Rattle.runs.specs.Jobs.{base_fault};
-ghost use Rattle.statement.specs.Draws.{drawn};
-ghost use Rattle.statement.specs.Statements.{Settled};
+ghost use Rattle.statement.specs.Selections.{selected};
+ghost use Rattle.statement.specs.Statements.{Compared};
 
-use crate::draw::Draw;
 use crate::model::Model;
+use crate::selection::Selection;
 use crate::side::{Side, play};
 use job::{Comparison, compare};
 use mesh::{GrowingStore, Triangle};
@@ -23,57 +23,65 @@ const TABLE_LENGTH: usize = 16 * (VERTEX_CAPACITY + TRIANGLE_CAPACITY);
 
 // The sheet, and the records that each side has carried out.
 #[derive(Clone, Copy)]
-pub struct Shares<'a> {
+pub struct Parts<'a> {
     pub base: &'a [u8],
-    pub lodged: &'a [&'a [u8]],
-    pub drawn: &'a [&'a [u8]],
+    pub all_records: &'a [&'a [u8]],
+    pub first_records: &'a [&'a [u8]],
 }
 
 // Both levels; none if a side's base is refused.
-pub fn settle<P: Place, S: GrowingStore<Kind = P>, R: GrowingStore<Kind = P>>(
+pub fn compare_sides<P: Place, S: GrowingStore<Kind = P>, R: GrowingStore<Kind = P>>(
     rt: &HostRuntime,
     maker_store: &mut S,
     shop_store: &mut R,
     table: &mut [u32],
-    shares: &Shares<'_>,
+    parts: &Parts<'_>,
 ) -> io::Result<Option<Comparison>>
     ensures answer { IfOk result (λ o. is_some o
-        ≡ (is_none (base_fault P.Place.kind (S.GrowingStore.vertex_room maker_store.old) (S.GrowingStore.triangle_room maker_store.old) (S.ReadingSurface.mesh maker_store.old) shares.now.base.now)
-        && is_none (base_fault P.Place.kind (R.GrowingStore.vertex_room shop_store.old) (R.GrowingStore.triangle_room shop_store.old) (R.ReadingSurface.mesh shop_store.old) shares.now.base.now))) }
-    ensures settled { IfOk result (λ o. IfSome o (Settled P.Place.kind (S.GrowingStore.vertex_room maker_store.old) (S.GrowingStore.triangle_room maker_store.old) (R.GrowingStore.vertex_room shop_store.old) (R.GrowingStore.triangle_room shop_store.old)
-        (length table.old) shares.now.base.now (map (λ r. r.now) shares.now.lodged.now) (map (λ r. r.now) shares.now.drawn.now))) }
+        ≡ (is_none (base_fault P.Place.kind (S.GrowingStore.vertex_room maker_store.old) (S.GrowingStore.triangle_room maker_store.old) (S.ReadingSurface.mesh maker_store.old) parts.now.base.now)
+        && is_none (base_fault P.Place.kind (R.GrowingStore.vertex_room shop_store.old) (R.GrowingStore.triangle_room shop_store.old) (R.ReadingSurface.mesh shop_store.old) parts.now.base.now))) }
+    ensures compared { IfOk result (λ o. IfSome o (Compared P.Place.kind (S.GrowingStore.vertex_room maker_store.old) (S.GrowingStore.triangle_room maker_store.old) (R.GrowingStore.vertex_room shop_store.old) (R.GrowingStore.triangle_room shop_store.old)
+        (length table.old) parts.now.base.now (map (λ r. r.now) parts.now.all_records.now) (map (λ r. r.now) parts.now.first_records.now))) }
 {
     let Some(maker) = play(
         rt,
         Side::Maker,
         maker_store,
         table,
-        shares.base,
-        shares.lodged,
+        parts.base,
+        parts.all_records,
     )?
     else {
         return Ok(None);
     };
-    let Some(shop) = play(rt, Side::Shop, shop_store, table, shares.base, shares.drawn)? else {
+    let Some(shop) = play(
+        rt,
+        Side::Shop,
+        shop_store,
+        table,
+        parts.base,
+        parts.first_records,
+    )?
+    else {
         return Ok(None);
     };
     Ok(Some(compare(&maker, maker_store, &shop, shop_store)))
 }
 
 // Both levels of a model, the maker on a chain store and the shop on a list store; none if its base is refused.
-pub fn settle_model<P: Place>(
+pub fn compare_model<P: Place>(
     rt: &HostRuntime,
     model: &Model<'_>,
-    draw: Draw,
+    selection: Selection,
 ) -> io::Result<Option<Comparison>>
     ensures answer { IfOk result (λ o. is_some o ≡ is_none (base_fault P.Place.kind 1024 2048 (mesh_of [] []) model.now.base.now)) }
-    ensures settled { IfOk result (λ o. IfSome o (Settled P.Place.kind 1024 2048 1024 2048 49152 model.now.base.now (map (λ r. r.now) model.now.records.items) (drawn draw (map (λ r. r.now) model.now.records.items)))) }
+    ensures compared { IfOk result (λ o. IfSome o (Compared P.Place.kind 1024 2048 1024 2048 49152 model.now.base.now (map (λ r. r.now) model.now.records.items) (selected selection (map (λ r. r.now) model.now.records.items)))) }
 {
     let records = model.records.as_slice();
-    let shares = Shares {
+    let parts = Parts {
         base: model.base,
-        lodged: records,
-        drawn: draw.from(records),
+        all_records: records,
+        first_records: selection.select(records),
     };
     let mut triangles = [ChainTriangle::UNUSED; TRIANGLE_CAPACITY];
     let mut vertices = [ChainVertex::UNUSED; VERTEX_CAPACITY];
@@ -82,5 +90,5 @@ pub fn settle_model<P: Place>(
     let mut vertices = [VertexRecord::UNUSED; VERTEX_CAPACITY];
     let mut shop_store = ListStore::<P>::new(&mut triangles, &mut vertices);
     let mut table = [0u32; TABLE_LENGTH];
-    settle(rt, &mut maker_store, &mut shop_store, &mut table, &shares)
+    compare_sides(rt, &mut maker_store, &mut shop_store, &mut table, &parts)
 }
