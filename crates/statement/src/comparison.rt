@@ -7,7 +7,7 @@ ghost use Rattle.statement.specs.Statements.{Compared};
 
 use crate::model::Model;
 use crate::selection::Selection;
-use crate::side::{Side, play};
+use crate::side::{Part, Side, play};
 use job::{Comparison, compare};
 use mesh::{GrowingStore, Triangle};
 use place::Place;
@@ -21,74 +21,77 @@ const TRIANGLE_CAPACITY: usize = 2048;
 
 const TABLE_LENGTH: usize = 16 * (VERTEX_CAPACITY + TRIANGLE_CAPACITY);
 
-// The sheet, and the records that each side has carried out.
-#[derive(Clone, Copy)]
-pub struct Parts<'a> {
-    pub base: &'a [u8],
-    pub all_records: &'a [&'a [u8]],
-    pub first_records: &'a [&'a [u8]],
-}
-
-// Both levels; none if a side's base is refused.
-pub fn compare_sides<P: Place, S: GrowingStore<Kind = P>, R: GrowingStore<Kind = P>>(
+// Both levels, each side with places of its own kind; none if a side's base is refused.
+pub fn compare_sides<P: Place, Q: Place, S: GrowingStore<Kind = P>, R: GrowingStore<Kind = Q>>(
     rt: &HostRuntime,
     maker_store: &mut S,
     shop_store: &mut R,
     table: &mut [u32],
-    parts: &Parts<'_>,
+    maker: &Part<'_>,
+    shop: &Part<'_>,
 ) -> io::Result<Option<Comparison>>
     ensures answer { IfOk result (λ o. is_some o
-        ≡ (is_none (base_fault P.Place.kind (S.GrowingStore.vertex_room maker_store.old) (S.GrowingStore.triangle_room maker_store.old) (S.ReadingSurface.mesh maker_store.old) parts.now.base.now)
-        && is_none (base_fault P.Place.kind (R.GrowingStore.vertex_room shop_store.old) (R.GrowingStore.triangle_room shop_store.old) (R.ReadingSurface.mesh shop_store.old) parts.now.base.now))) }
-    ensures compared { IfOk result (λ o. IfSome o (Compared P.Place.kind (S.GrowingStore.vertex_room maker_store.old) (S.GrowingStore.triangle_room maker_store.old) (R.GrowingStore.vertex_room shop_store.old) (R.GrowingStore.triangle_room shop_store.old)
-        (length table.old) parts.now.base.now (map (λ r. r.now) parts.now.all_records.now) (map (λ r. r.now) parts.now.first_records.now))) }
+        ≡ (is_none (base_fault P.Place.kind (S.GrowingStore.vertex_room maker_store.old) (S.GrowingStore.triangle_room maker_store.old) (S.ReadingSurface.mesh maker_store.old) maker.now.sheet.now)
+        && is_none (base_fault Q.Place.kind (R.GrowingStore.vertex_room shop_store.old) (R.GrowingStore.triangle_room shop_store.old) (R.ReadingSurface.mesh shop_store.old) shop.now.sheet.now))) }
+    ensures compared { IfOk result (λ o. IfSome o (Compared P.Place.kind Q.Place.kind
+        (S.GrowingStore.vertex_room maker_store.old) (S.GrowingStore.triangle_room maker_store.old) (R.GrowingStore.vertex_room shop_store.old) (R.GrowingStore.triangle_room shop_store.old)
+        (length table.old) maker.now.sheet.now shop.now.sheet.now (map (λ r. r.now) maker.now.records.now) (map (λ r. r.now) shop.now.records.now))) }
 {
-    let Some(maker) = play(
-        rt,
-        Side::Maker,
-        maker_store,
-        table,
-        parts.base,
-        parts.all_records,
-    )?
-    else {
+    let Some(first) = play(rt, Side::Maker, maker_store, table, maker)? else {
         return Ok(None);
     };
-    let Some(shop) = play(
-        rt,
-        Side::Shop,
-        shop_store,
-        table,
-        parts.base,
-        parts.first_records,
-    )?
-    else {
+    let Some(second) = play(rt, Side::Shop, shop_store, table, shop)? else {
         return Ok(None);
     };
-    Ok(Some(compare(&maker, maker_store, &shop, shop_store)))
+    Ok(Some(compare(&first, maker_store, &second, shop_store)))
 }
 
-// Both levels of a model, the maker on a chain store and the shop on a list store; none if its base is refused.
+// The same, the maker on a chain store and the shop on a list store.
+pub fn compare_parts<P: Place, Q: Place>(
+    rt: &HostRuntime,
+    maker: &Part<'_>,
+    shop: &Part<'_>,
+) -> io::Result<Option<Comparison>>
+    ensures answer { IfOk result (λ o. is_some o
+        ≡ (is_none (base_fault P.Place.kind 1024 2048 (mesh_of [] []) maker.now.sheet.now) && is_none (base_fault Q.Place.kind 1024 2048 (mesh_of [] []) shop.now.sheet.now))) }
+    ensures compared { IfOk result (λ o. IfSome o (Compared P.Place.kind Q.Place.kind 1024 2048 1024 2048 49152
+        maker.now.sheet.now shop.now.sheet.now (map (λ r. r.now) maker.now.records.now) (map (λ r. r.now) shop.now.records.now))) }
+{
+    let mut triangles = [ChainTriangle::UNUSED; TRIANGLE_CAPACITY];
+    let mut vertices = [ChainVertex::UNUSED; VERTEX_CAPACITY];
+    let mut maker_store = ChainStore::<P>::new(&mut triangles, &mut vertices);
+    let mut triangles = [Triangle { a: 0, b: 0, c: 0 }; TRIANGLE_CAPACITY];
+    let mut vertices = [VertexRecord::UNUSED; VERTEX_CAPACITY];
+    let mut shop_store = ListStore::<Q>::new(&mut triangles, &mut vertices);
+    let mut table = [0u32; TABLE_LENGTH];
+    compare_sides(
+        rt,
+        &mut maker_store,
+        &mut shop_store,
+        &mut table,
+        maker,
+        shop,
+    )
+}
+
+// Both levels of a model, its places of one kind on both sides; none if its base is refused.
 pub fn compare_model<P: Place>(
     rt: &HostRuntime,
     model: &Model<'_>,
     selection: Selection,
 ) -> io::Result<Option<Comparison>>
     ensures answer { IfOk result (λ o. is_some o ≡ is_none (base_fault P.Place.kind 1024 2048 (mesh_of [] []) model.now.base.now)) }
-    ensures compared { IfOk result (λ o. IfSome o (Compared P.Place.kind 1024 2048 1024 2048 49152 model.now.base.now (map (λ r. r.now) model.now.records.items) (selected selection (map (λ r. r.now) model.now.records.items)))) }
+    ensures compared { IfOk result (λ o. IfSome o (Compared P.Place.kind P.Place.kind 1024 2048 1024 2048 49152
+        model.now.base.now model.now.base.now (map (λ r. r.now) model.now.records.items) (selected selection (map (λ r. r.now) model.now.records.items)))) }
 {
     let records = model.records.as_slice();
-    let parts = Parts {
-        base: model.base,
-        all_records: records,
-        first_records: selection.select(records),
+    let maker = Part {
+        sheet: model.base,
+        records,
     };
-    let mut triangles = [ChainTriangle::UNUSED; TRIANGLE_CAPACITY];
-    let mut vertices = [ChainVertex::UNUSED; VERTEX_CAPACITY];
-    let mut maker_store = ChainStore::<P>::new(&mut triangles, &mut vertices);
-    let mut triangles = [Triangle { a: 0, b: 0, c: 0 }; TRIANGLE_CAPACITY];
-    let mut vertices = [VertexRecord::UNUSED; VERTEX_CAPACITY];
-    let mut shop_store = ListStore::<P>::new(&mut triangles, &mut vertices);
-    let mut table = [0u32; TABLE_LENGTH];
-    compare_sides(rt, &mut maker_store, &mut shop_store, &mut table, &parts)
+    let shop = Part {
+        sheet: model.base,
+        records: selection.select(records),
+    };
+    compare_parts::<P, P>(rt, &maker, &shop)
 }

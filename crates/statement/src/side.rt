@@ -27,6 +27,13 @@ impl Side {
     }
 }
 
+// What a side takes: a base sheet, and the records to be carried out on it.
+#[derive(Clone, Copy)]
+pub struct Part<'a> {
+    pub sheet: &'a [u8],
+    pub records: &'a [&'a [u8]],
+}
+
 // Carries out the records one after another. One that is refused is told, and changes nothing.
 fn carry_out<P: Place, S: GrowingStore<Kind = P>>(
     rt: &HostRuntime,
@@ -47,21 +54,20 @@ fn carry_out<P: Place, S: GrowingStore<Kind = P>>(
     Ok(())
 }
 
-// The job of a side that takes the base and has the records carried out; none, and the refusal told, if the base is refused.
+// The job of a side that takes a sheet and has its records carried out; none, and the refusal told, if the sheet is refused.
 pub fn play<P: Place, S: GrowingStore<Kind = P>>(
     rt: &HostRuntime,
     side: Side,
     store: &mut S,
     table: &mut [u32],
-    base: &[u8],
-    records: &[&[u8]],
+    part: &Part<'_>,
 ) -> io::Result<Option<Running>>
-    ensures answer { IfOk result (λ o. is_some o ≡ is_none (base_fault P.Place.kind (S.GrowingStore.vertex_room store.old) (S.GrowingStore.triangle_room store.old) (S.ReadingSurface.mesh store.old) base.now)) }
-    ensures run { IfOk result (λ o. IfSome o (λ job. Run P.Place.kind (S.GrowingStore.vertex_room store.old) (S.GrowingStore.triangle_room store.old) base.now (offers (length table.old) (map (λ r. r.now) records.now)) (state_of (S.ReadingSurface.mesh store.new) (job_of job)))) }
+    ensures answer { IfOk result (λ o. is_some o ≡ is_none (base_fault P.Place.kind (S.GrowingStore.vertex_room store.old) (S.GrowingStore.triangle_room store.old) (S.ReadingSurface.mesh store.old) part.now.sheet.now)) }
+    ensures run { IfOk result (λ o. IfSome o (λ job. Run P.Place.kind (S.GrowingStore.vertex_room store.old) (S.GrowingStore.triangle_room store.old) part.now.sheet.now (offers (length table.old) (map (λ r. r.now) part.now.records.now)) (state_of (S.ReadingSurface.mesh store.new) (job_of job)))) }
 {
-    match open().base(store, base) {
+    match open().base(store, part.sheet) {
         Ok(mut job) => {
-            carry_out(rt, side, &mut job, store, table, records)?;
+            carry_out(rt, side, &mut job, store, table, part.records)?;
             Ok(Some(job))
         }
         Err(refused) => {
