@@ -7,7 +7,7 @@ use Rattle.runs.specs.Runs.{Run}
 use Rattle.runs.specs.Statement.{AlwaysKept, TwoJobs}
 use Rattle.job.specs.declared.comparing.Comparison.{Comparison}
 use Rattle.job.specs.Levels.{level_of, level_balances, RunsBalance}
-use Rattle.statement.specs.Sides.{offers, played}
+use Rattle.statement.specs.Sides.{offers}
 use Rattle.statement.specs.Statements.{Compared}
 
 module _ {P D Q C : Type 0} (k : Kind P D) (l : Kind Q C) (va ta vb tb table : ℕ) (sheet other : List ℕ) (records others : List (List ℕ)) (a : State P) (b : State Q) (c : Comparison) where

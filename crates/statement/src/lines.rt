@@ -7,18 +7,25 @@ use survey::Counts;
 
 pub fn print_usage(rt: &HostRuntime) -> io::Result<()> {
     println!(rt; "usage: statement [RECORDS] < MODEL")?;
-    println!(rt; "Reads a model from standard input: a base sheet, then records.")?;
+    println!(rt;
+        "Reads a model from standard input: a base sheet, then records; 1048576 bytes at most."
+    )?;
+    println!(rt;
+        "The sheet's kind byte decides the kind of its places: floats if it is 2, else the grid."
+    )?;
     println!(rt;
         "A maker takes the base on a chain store and carries out all records, a shop takes it on a"
     )?;
     println!(rt;
-        "list store and carries out the first RECORDS of them, or the first half. Prints what is"
+        "list store and carries out the first RECORDS of them, or the first half. A record that is"
     )?;
-    println!(rt; "counted in each mesh, what each side's tallies tell, and whether they agree.")?;
     println!(rt;
-        "Each store has room for 1024 vertices and 2048 triangles; what lies behind the first"
+        "refused is printed and changes nothing; a base that is refused ends the program."
     )?;
-    println!(rt; "1048576 bytes is left unread.")
+    println!(rt;
+        "Then prints what is counted in each mesh, what each side's tallies tell, and whether they"
+    )?;
+    println!(rt; "agree. Each store has room for 1024 vertices and 2048 triangles.")
 }
 
 pub fn print_refusal(rt: &HostRuntime, side: Side, item: usize, fault: Fault) -> io::Result<()> {
