@@ -2,3 +2,4 @@ mod Items
 mod Selecting
 mod Bases
 mod Comparing
+mod AsFloats

@@ -3,14 +3,16 @@ ghost use Rattle.std.specs.Prelude.{◌≡◌, ◌&&◌, [], length, map, IfOk, 
 ghost use Rattle.mesh.specs.Meshes.{mesh_of};
 ghost use Rattle.runs.specs.Jobs.{base_fault};
 ghost use Rattle.statement.specs.Selections.{selected};
-ghost use Rattle.statement.specs.Statements.{Compared};
+ghost use Rattle.statement.specs.Statements.{Compared, ComparedWithFloats};
 
+use crate::floats::{records_as_floats, sheet_as_floats};
+use crate::lines::print_refusal;
 use crate::model::Model;
 use crate::selection::Selection;
 use crate::side::{Part, Side, play};
 use job::{Comparison, compare};
 use mesh::{GrowingStore, Triangle};
-use place::Place;
+use place::{FloatPlace, Grid, Place};
 use std::io;
 use stores::{ChainStore, ChainTriangle, ChainVertex, ListStore, VertexRecord};
 
@@ -94,4 +96,36 @@ pub fn compare_model<P: Place>(
         records: selection.select(records),
     };
     compare_parts::<P, P>(rt, &maker, &shop)
+}
+
+// Both levels of a model of the grid, the shop's sheet and records with the same numbers kept as floats; none if its base is refused.
+pub fn compare_with_floats(
+    rt: &HostRuntime,
+    model: &Model<'_>,
+    selection: Selection,
+) -> io::Result<Option<Comparison>>
+    ensures { IfOk result (λ o. IfSome o (ComparedWithFloats 1024 2048 1024 2048 49152 model.now.base.now (map (λ r. r.now) model.now.records.items))) }
+{
+    let records = model.records.as_slice();
+    let sheet = match sheet_as_floats(rt.alloc(), model.base)? {
+        Ok(sheet) => sheet,
+        Err(fault) => {
+            print_refusal(rt, Side::Maker, 0, fault)?;
+            return Ok(None);
+        }
+    };
+    let written = records_as_floats(rt.alloc(), selection.select(records))?;
+    let floats: Vec<&[u8]> = written
+        .iter()
+        .map(|record| record.as_slice())
+        .collect(rt.alloc())?;
+    let maker = Part {
+        sheet: model.base,
+        records,
+    };
+    let shop = Part {
+        sheet: &sheet,
+        records: floats.as_slice(),
+    };
+    compare_parts::<Grid, FloatPlace>(rt, &maker, &shop)
 }

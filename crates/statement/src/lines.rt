@@ -6,7 +6,7 @@ use std::io;
 use survey::Counts;
 
 pub fn print_usage(rt: &HostRuntime) -> io::Result<()> {
-    println!(rt; "usage: statement [RECORDS] < MODEL")?;
+    println!(rt; "usage: statement [RECORDS] [floats] < MODEL")?;
     println!(rt;
         "Reads a model from standard input: a base sheet, then records; 1048576 bytes at most."
     )?;
@@ -17,11 +17,12 @@ pub fn print_usage(rt: &HostRuntime) -> io::Result<()> {
         "A maker takes the base on a chain store and carries out all records, a shop takes it on a"
     )?;
     println!(rt;
-        "list store and carries out the first RECORDS of them, or the first half. A record that is"
+        "list store and carries out the first RECORDS of them, or the first half; with floats, it"
     )?;
     println!(rt;
-        "refused is printed and changes nothing; a base that is refused ends the program."
+        "keeps the grid's places as floats. A record that is refused is printed and changes"
     )?;
+    println!(rt; "nothing; a base that is refused ends the program.")?;
     println!(rt;
         "Then prints what is counted in each mesh, what each side's tallies tell, and whether they"
     )?;

@@ -2,45 +2,60 @@
 #![tactic(auto)]
 
 mod comparison;
+mod floats;
 mod lines;
 mod model;
+mod request;
 mod selection;
 mod side;
 #[cfg(test)]
 mod tests;
 
-use comparison::compare_model;
+use comparison::{compare_model, compare_with_floats};
+use fault::Fault;
+use job::Comparison;
 use lines::{print_statement, print_usage};
 use model::Model;
 use place::{FloatPlace, Grid, Place, byte_at};
-use selection::Selection;
+use request::Request;
 use sheet::survey_sheet;
 use std::io;
 use std::io::Read;
 use std::process::ExitCode;
+use survey::Counts;
 
 // A longer input is refused whole, so that no item is cut by the limit.
 const INPUT_LIMIT: usize = 1_048_576;
 
-// The statement of a model whose places have this kind.
-fn state<P: Place>(rt: &HostRuntime, model: &Model<'_>, selection: Selection) -> io::Result<()> {
-    match compare_model::<P>(rt, model, selection)? {
-        Some(comparison) => print_statement(rt, survey_sheet::<P>(model.base), comparison),
-        None => Ok(()),
+fn has_floats(model: &Model<'_>) -> bool {
+    byte_at(model.base, 5) == FloatPlace::KIND
+}
+
+fn survey_base(model: &Model<'_>) -> Result<Counts, Fault> {
+    if has_floats(model) {
+        survey_sheet::<FloatPlace>(model.base)
+    } else {
+        survey_sheet::<Grid>(model.base)
     }
 }
 
-fn state_input(rt: &HostRuntime, input: &[u8], selection: Selection) -> io::Result<()> {
-    let model = Model::read(rt.alloc(), input)?;
-    if byte_at(model.base, 5) == FloatPlace::KIND {
-        state::<FloatPlace>(rt, &model, selection)
+// Both sides with places of the kind that the sheet tells, or the shop with floats.
+fn compare_requested(
+    rt: &HostRuntime,
+    model: &Model<'_>,
+    request: Request,
+) -> io::Result<Option<Comparison>> {
+    if has_floats(model) {
+        compare_model::<FloatPlace>(rt, model, request.selection)
+    } else if request.floats {
+        compare_with_floats(rt, model, request.selection)
     } else {
-        state::<Grid>(rt, &model, selection)
+        compare_model::<Grid>(rt, model, request.selection)
     }
 }
 
 fn main(rt: HostRuntime) -> io::Result<ExitCode> {
-    let Some(selection) = Selection::requested(&rt)? else {
+    let Some(request) = Request::read(&rt)? else {
         print_usage(&rt)?;
         return Ok(ExitCode::SUCCESS);
     };
@@ -52,6 +67,9 @@ fn main(rt: HostRuntime) -> io::Result<ExitCode> {
         eprintln!(&rt; "statement: the input is longer than {INPUT_LIMIT} bytes")?;
         return Ok(ExitCode::FAILURE);
     }
-    state_input(&rt, &input, selection)?;
+    let model = Model::read(rt.alloc(), &input)?;
+    if let Some(comparison) = compare_requested(&rt, &model, request)? {
+        print_statement(&rt, survey_base(&model), comparison)?;
+    }
     Ok(ExitCode::SUCCESS)
 }
