@@ -22,12 +22,11 @@ pub fn word_at(bytes: &[u8], i: usize) -> u32
     ensures { result ≡ word bytes.now i }
 {
     let rest = rest_of(bytes, i);
-    u32::from_be_bytes([
-        byte_at(rest, 0),
-        byte_at(rest, 1),
-        byte_at(rest, 2),
-        byte_at(rest, 3),
-    ])
+    // Where four bytes are there, one test does for all of them.
+    match rest.first_chunk() {
+        Some(four) => u32::from_be_bytes(*four),
+        None => u32::from_be_bytes([byte_at(rest, 0), byte_at(rest, 1), byte_at(rest, 2), 0]),
+    }
 }
 
 // The first three pieces of SIZE bytes, none where there are fewer bytes.

@@ -1,14 +1,36 @@
 // A sheet as a reading surface: each vertex is its own parent.
-ghost use Rattle.std.specs.Prelude.{◌≡◌, is_some};
+ghost use Rattle.std.specs.Prelude.{◌≡◌, ◌+◌, ◌^◌, ◌<◌, ◌≤◌, length, is_some};
+ghost use Rattle.place.specs.Words.{word};
 ghost use Rattle.mesh.specs.Triangles.{tri_of};
 ghost use Rattle.mesh.specs.Sides.{corner_of};
-ghost use Rattle.sheet.specs.Content.{triangle_in, place_read, sheet_mesh};
+ghost use Rattle.sheet.specs.Content.{triangle_from, triangle_in, place_read, sheet_mesh};
 ghost use Rattle.sheet.specs.Bounds.{sheet_limited};
 
 use crate::checks::HEAD;
 use crate::sheet::Sheet;
 use mesh::{ReadingSurface, Triangle};
 use place::{Place, rest_of, word_at};
+
+// The number that the four bytes from `at` on stand for, which are there.
+fn word_within(bytes: &[u8], at: usize) -> u32
+    requires { at + 4 ≤ length bytes.now }
+    ensures { result ≡ word bytes.now at }
+{
+    u32::from_be_bytes([bytes[at], bytes[at + 1], bytes[at + 2], bytes[at + 3]])
+}
+
+// The triangle from `at` on where some of its bytes are not there.
+#[cold]
+fn triangle_cut_short(bytes: &[u8], at: usize) -> Triangle
+    requires { at + 8 < 2 ^ 64 }
+    ensures { tri_of result ≡ triangle_from bytes.now at }
+{
+    Triangle {
+        a: word_at(bytes, at),
+        b: word_at(bytes, at + 4),
+        c: word_at(bytes, at + 8),
+    }
+}
 
 impl<'a, P: Place> Sheet<'a, P> {
     // What the bytes of place v read as.
@@ -19,15 +41,19 @@ impl<'a, P: Place> Sheet<'a, P> {
         P::read(rest_of(self.bytes, at))
     }
 
-    // The triangle that the twelve bytes of triangle t stand for.
+    // The triangle that the twelve bytes of triangle t stand for. One test does for all of them where they are there.
+    #[inline(always)]
     fn triangle_in(&self, t: u32) -> Triangle
         ensures { tri_of result ≡ triangle_in P.Place.kind.width self.now.bytes.now t }
     {
         let at = HEAD + self.totals.vertices as usize * P::WIDTH + t as usize * 12;
+        if self.bytes.len() < at + 12 {
+            return triangle_cut_short(self.bytes, at);
+        }
         Triangle {
-            a: word_at(self.bytes, at),
-            b: word_at(self.bytes, at + 4),
-            c: word_at(self.bytes, at + 8),
+            a: word_within(self.bytes, at),
+            b: word_within(self.bytes, at + 4),
+            c: word_within(self.bytes, at + 8),
         }
     }
 
