@@ -10,10 +10,23 @@ use fault::Fault;
 use mesh::{MAX_TRIANGLES, MAX_VERTICES, ReadingSurface, Totals, copy_surface};
 use stores::{ChainStore, ChainTriangle, ChainVertex};
 
-// As `survey`, for a surface whose side question is a search: it copies the triangles into a chain
-// store in scratch memory and asks that. The tables are arrays, so that the survey cannot fail for
-// want of memory; they take about 1.1 MB of stack.
+// Up to so many triangles, searching takes no longer than making the copy, whose tables are those of the largest mesh.
+const FEW_TRIANGLES: u32 = 64;
+
+// As `survey`, for a surface whose side question is a search.
 pub fn survey_indexed<S: ReadingSurface>(s: &S) -> Result<Counts, Fault>
+    ensures { result ≡ surveyed (vertex_total (S.mesh s.now)) (S.mesh s.now).triangles }
+{
+    if s.triangle_count() <= FEW_TRIANGLES {
+        return survey(s);
+    }
+    survey_copied(s)
+}
+
+// Copies the triangles into a chain store in scratch memory and asks that. The tables are arrays, so that the survey cannot
+// fail for want of memory; they take about 1.1 MB of stack. Never inlined, so that few triangles are surveyed without them.
+#[inline(never)]
+fn survey_copied<S: ReadingSurface>(s: &S) -> Result<Counts, Fault>
     ensures { result ≡ surveyed (vertex_total (S.mesh s.now)) (S.mesh s.now).triangles }
 {
     Totals::new(s.vertex_count(), s.triangle_count())?;

@@ -4,7 +4,7 @@ ghost use Rattle.mesh.specs.Triangles.{tri_of};
 ghost use Rattle.mesh.specs.Meshes.{vertex_total, triangle_total};
 ghost use Rattle.survey.specs.Checks.{first_bad};
 ghost use Rattle.survey.specs.Ringwalk.{unringed_at, first_unringed};
-ghost use Rattle.survey.specs.Tables.{Below, Small, Counted, Seen, Added, Noted, counts, lasts};
+ghost use Rattle.survey.specs.Tables.{Below, Small, Zero, Counted, Seen, Added, Noted, counts, lasts};
 
 use crate::ring::ring_from;
 use mesh::{MAX_TRIANGLES, MAX_VERTICES, ReadingSurface, Triangle};
@@ -16,6 +16,14 @@ const VERTICES: usize = MAX_VERTICES as usize;
 pub(crate) struct Corners {
     pub(crate) count: u32,
     pub(crate) last: u32,
+}
+
+// No corner is noted yet. The table is an array, so that the survey cannot fail for want of memory.
+pub(crate) fn no_corners() -> [Corners; VERTICES]
+    ensures counts_zero { Zero (counts result) }
+    ensures lasts_zero { Zero (lasts result) }
+{
+    [Corners { count: 0, last: 0 }; VERTICES]
 }
 
 // One corner more at v, of the triangle i.
@@ -42,25 +50,25 @@ fn note(table: &mut [Corners; VERTICES], t: Triangle, i: u32)
     note_corner(table, t.c, i);
 }
 
-// A surface with an entry for each vertex that a mesh may have. The table is an array, so that
-// the survey cannot fail for want of memory.
+// A surface with an entry for each vertex that a mesh may have. The table is lent: it is too large to be handed on.
 #[derive(Drop)]
 pub(crate) struct Tally<'a, S: ReadingSurface> {
     surface: &'a S,
-    table: [Corners; VERTICES],
-    ghost counted: { Counted (S.mesh surface.now).triangles (triangle_total (S.mesh surface.now)) (counts table) },
-    ghost seen: { Seen (S.mesh surface.now).triangles (triangle_total (S.mesh surface.now)) (lasts table) },
+    table: &'a [Corners; VERTICES],
+    ghost counted: { Counted (S.mesh surface.now).triangles (triangle_total (S.mesh surface.now)) (counts table.now) },
+    ghost seen: { Seen (S.mesh surface.now).triangles (triangle_total (S.mesh surface.now)) (lasts table.now) },
 }
 
 impl<'a, S: ReadingSurface> Tally<'a, S> {
     // Where no triangle has bad corners.
-    pub(crate) fn new(surface: &'a S) -> Self
-        requires { first_bad (vertex_total (S.mesh surface.now)) (S.mesh surface.now).triangles ≡ None }
+    pub(crate) fn new(surface: &'a S, table: &'a mut [Corners; VERTICES]) -> Self
+        requires corners_good { first_bad (vertex_total (S.mesh surface.now)) (S.mesh surface.now).triangles ≡ None }
+        requires counts_zero { Zero (counts table.old) }
+        requires lasts_zero { Zero (lasts table.old) }
         ensures { result.surface.now ≡ surface.now }
     {
-        let mut table = [Corners { count: 0, last: 0 }; VERTICES];
         for (i, t) in (0..).zip(surface.triangles()) {
-            note(&mut table, t, i);
+            note(table, t, i);
         }
         Tally { surface, table }
     }

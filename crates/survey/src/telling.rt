@@ -6,7 +6,7 @@ ghost use Rattle.survey.specs.Survey.{shape_fault, survey_fault, edge_count, cou
 
 use crate::checks::{first_bad, first_open, first_repeated};
 use crate::counts::Counts;
-use crate::tally::Tally;
+use crate::tally::{Tally, no_corners};
 use fault::Fault;
 use mesh::{ReadingSurface, Totals};
 
@@ -24,7 +24,8 @@ fn check_shape<S: ReadingSurface>(s: &S) -> Result<(), Fault>
     if let Some(t) = first_open(s) {
         return Err(Fault::OpenSide(t));
     }
-    if let Some(v) = Tally::new(s).first_unringed() {
+    let mut table = no_corners();
+    if let Some(v) = Tally::new(s, &mut table).first_unringed() {
         return Err(Fault::NoSingleRing(v));
     }
     Ok(())

@@ -1,4 +1,4 @@
-use Rattle.std.proofs.Common.{◌≡◌, ◌+◌, length, drop, ◌∙◌, inl, inr, sym, refl, ap, arith, rules}
+use Rattle.std.proofs.Common.{◌≡◌, ◌+◌, length, drop, ◌∙◌, inl, inr, sym, ap, arith, rules}
 use Rattle.mesh.specs.Triangles.{tri_of}
 use Rattle.mesh.specs.Meshes.{vertex_total}
 use Rattle.mesh.specs.Passes.{triangles_left}
@@ -6,7 +6,7 @@ use Rattle.mesh.proofs.Passing.{left_turn, left_end}
 use Rattle.std.proofs.lemmas.Option.{slice_get_within}
 use Rattle.survey.specs.Tables.{counts}
 use Rattle.survey.proofs.Fitting.{below_all}
-use Rattle.survey.proofs.Noting.{counted_none, counted_at, counted_small, counted_more, seen_none, seen_at, seen_more, zero_each}
+use Rattle.survey.proofs.Noting.{counted_none, counted_at, counted_small, counted_more, seen_none, seen_at, seen_more}
 use Rattle.survey.proofs.tally.Tally.new.Goals as goal
 
 pub loop-i-init : goal.loop-i-init
@@ -17,8 +17,8 @@ loop-i-init g c =
     let left : triangles_left g.S.ReadingSurface.mesh s.b ≡ ts = search rules in (
       left ∙ ap (λ n. drop n ts) (sym z),
       omega arith,
-      counted_at ts 0 _ _ (sym z) (counted_none _ _ (zero_each (λ x. x.count) (record { count = 0; last = 0 }) 16384 refl refl)),
-      seen_at ts 0 _ _ (sym z) (seen_none _ _ (zero_each (λ x. x.last) (record { count = 0; last = 0 }) 16384 refl refl)),
+      counted_at ts 0 _ _ (sym z) (counted_none _ _ c.requires.counts_zero),
+      seen_at ts 0 _ _ (sym z) (seen_none _ _ c.requires.lasts_zero),
     )
 
 pub note-requires : goal.note-requires
@@ -29,7 +29,7 @@ note-requires g c =
     let i = c.loop-i.invariant in
     let turn = left_turn m.triangles c.loop-i.i-iterator.a.start (tri_of c.in-Some.t) _ (sym i.0 ∙ c.in-Some.ensures.steps.1) in
     record {
-      below = below_all (vertex_total m) m.triangles c.loop-i.i-iterator.a.start (tri_of c.in-Some.t) c.requires (sym turn.0) few.few_vertices;
+      below = below_all (vertex_total m) m.triangles c.loop-i.i-iterator.a.start (tri_of c.in-Some.t) c.requires.corners_good (sym turn.0) few.few_vertices;
       small = counted_small m.triangles c.loop-i.i-iterator.a.start (counts c.loop-i.table) i.2 (omega arith);
     }
 

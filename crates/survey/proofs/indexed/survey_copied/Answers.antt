@@ -3,7 +3,7 @@ use Rattle.mesh.specs.Meshes.{vertex_total}
 use Rattle.stores.specs.Chained.{chain_mesh, chain_vertex_room, chain_triangle_room}
 use Rattle.survey.specs.Checks.{first_bad}
 use Rattle.survey.proofs.Index.{good_fitting, index_surveyed}
-use Rattle.survey.proofs.indexed.survey_indexed.Goals as goal
+use Rattle.survey.proofs.indexed.survey_copied.Goals as goal
 
 pub returns : goal.returns
 returns g c =
