@@ -1,5 +1,5 @@
 -- What the writer's searches and counts find, in the words of its refusals.
-use Rattle.std.proofs.Common.{◌≡◌, ℕ, ◌+◌, ◌<◌, ◌≤◌, Bool, true, false, cond, not, eqb, leb, ltb, List, [], ◌∷◌, Some, None, Option, Ok, Err, refl, sym, ap, ◌∙◌, ⊎_elim, arith}
+use Rattle.std.proofs.Common.{◌≡◌, ℕ, ◌+◌, ◌<◌, ◌≤◌, suc, Bool, true, false, cond, not, eqb, leb, ltb, List, [], ◌∷◌, Some, None, Option, length, Ok, Err, refl, sym, ap, ◌∙◌, ⊎_elim, arith}
 use Rattle.std.specs.Option.{option_map}
 use Rattle.std.specs.List.{count_by, position, position_from}
 use Rattle.std.proofs.lemmas.Bool.{cases_lt, le-leb, lt-leb, lt-ltb, le-ltb, cond-true, cond-false}
@@ -16,6 +16,14 @@ not_zero_counted xs = is_count_by not_zero (λ (x : ℕ). not (eqb x 0)) refl (�
     counted : (b : Bool) (n : ℕ) → cond b 0 1 + n ≡ cond (not b) (1 + n) n
     counted true n = omega arith
     counted false n = omega arith
+
+pub few_not_zero : (xs : List ℕ) → not_zero xs ≤ length xs
+few_not_zero [] = omega arith
+few_not_zero (x ∷ xs) = one (eqb x 0) (few_not_zero xs)
+  where
+    one : (b : Bool) → not_zero xs ≤ length xs → cond b 0 1 + not_zero xs ≤ suc (length xs)
+    one true h = omega arith
+    one false h = omega arith
 
 over_from : (limit i : ℕ) (xs : List ℕ) → over_fault limit i xs ≡ option_map ValueTooLarge (position_from (λ (x : ℕ). ltb limit x) i xs)
 over_from limit i [] = refl

@@ -1,9 +1,9 @@
 -- Numbers that were packed are read again, and leave the spare bits 0.
-use Rattle.std.proofs.Common.{◌≡◌, ℕ, zero, suc, ◌+◌, ◌-◌, ◌*◌, ◌/◌, ◌%◌, ◌^◌, ◌<◌, ◌≤◌, cond, eqb, List, [], ◌∷◌, ◌++◌, length, get_or, take, drop, sym, refl, ap, ◌∙◌, subst, add-zero, zero-add, mod-eq_of_lt, mul_assoc, mul_comm, add_comm, mul-suc, mul-add, add-one, arith}
+use Rattle.std.proofs.Common.{◌≡◌, ℕ, zero, suc, ◌+◌, ◌-◌, ◌*◌, ◌/◌, ◌%◌, ◌^◌, ◌<◌, ◌≤◌, List, [], ◌∷◌, ◌++◌, length, get_or, take, drop, sym, refl, ap, ◌∙◌, subst, add-zero, zero-add, mod-eq_of_lt, mul_assoc, mul_comm, add_comm, mul-suc, mul-add, add-one, arith}
 use native.Mathlib.Nat.{mul-add-div_right, mul-add-mod_self_right, zero-mod}
 use Rattle.std.proofs.lemmas.Nat.{pow_pos, pow-add, div-mul-add, mul-add-lt, div-add-mod', div_below, mod_below}
 use Rattle.std.proofs.lemmas.List.{get_or-drop, drop-drop, take_more, length-drop}
-use Rattle.std.specs.List.{count_by, range_with_len}
+use Rattle.std.specs.List.{sum_by, range_with_len}
 use Rattle.std.proofs.lemmas.List.Sums.{sum_by-cons}
 use Rattle.record.specs.Packing.{number_in, mark_in, gathered, packed, Small, marks_set}
 use Rattle.record.specs.Refusals.{not_zero}
@@ -122,20 +122,20 @@ marks_counted bs ms (suc j) h same l =
     ap not_zero t ∙ not_zero_append (take j ms) (get_or ms j 0 ∷ []) ∙ ap (λ (i : ℕ). not_zero (take j ms) + i) (one_or_none (get_or ms j 0) (h j)) in
     omega (arith, marks_counted bs ms j h same (omega arith), same j lt, a)
 
-one_if_set : (x : ℕ) → x < 2 → cond (eqb x 1) 1 0 ≡ x
-one_if_set zero h = refl
-one_if_set (suc zero) h = refl
-one_if_set (suc (suc x)) h = absurd (omega arith)
-
--- the marks that are set are those that a filter passes
-marks_after : (bs : List ℕ) (a n : ℕ) → marks_set bs a + count_by (λ (e : ℕ). eqb (mark_in bs e) 1) (range_with_len a n) ≡ marks_set bs (a + n)
+-- the marks that are set are the sum of the marks
+marks_after : (bs : List ℕ) (a n : ℕ) → marks_set bs a + sum_by (mark_in bs) (range_with_len a n) ≡ marks_set bs (a + n)
 marks_after bs a zero = add-zero (marks_set bs a) ∙ ap (marks_set bs) (sym (add-zero a))
 marks_after bs a (suc n) =
-    let one : cond (eqb (mark_in bs a) 1) 1 0 ≡ mark_in bs a = one_if_set (mark_in bs a) (omega arith) in
-    let first : count_by (λ (e : ℕ). eqb (mark_in bs e) 1) (range_with_len a (suc n)) ≡ cond (eqb (mark_in bs a) 1) 1 0 + count_by (λ (e : ℕ). eqb (mark_in bs e) 1) (range_with_len (a + 1) n) = sum_by-cons (λ (e : ℕ). cond (eqb (mark_in bs e) 1) 1 0) a (range_with_len (a + 1) n) in
+    let first : sum_by (mark_in bs) (range_with_len a (suc n)) ≡ mark_in bs a + sum_by (mark_in bs) (range_with_len (a + 1) n) = sum_by-cons (mark_in bs) a (range_with_len (a + 1) n) in
     let more : marks_set bs (a + 1) ≡ marks_set bs a + mark_in bs a = ap (marks_set bs) (add-one a) in
     let last : a + 1 + n ≡ a + suc n = omega arith in
-    omega (arith, one, first, more, marks_after bs (a + 1) n, ap (marks_set bs) last)
+    omega (arith, first, more, marks_after bs (a + 1) n, ap (marks_set bs) last)
 
-pub marks_filtered : (bs : List ℕ) (m : ℕ) → count_by (λ (e : ℕ). eqb (mark_in bs e) 1) (range_with_len 0 m) ≡ marks_set bs m
-marks_filtered bs m = omega (arith, marks_after bs 0 m, ap (marks_set bs) (zero-add m))
+pub marks_summed : (bs : List ℕ) (m : ℕ) → sum_by (mark_in bs) (range_with_len 0 m) ≡ marks_set bs m
+marks_summed bs m = omega (arith, marks_after bs 0 m, ap (marks_set bs) (zero-add m))
+
+pub marks_few : (bs : List ℕ) (m : ℕ) → marks_set bs m ≤ m
+marks_few bs zero = omega arith
+marks_few bs (suc m) =
+    let one : mark_in bs m < 2 = omega arith in
+    let before = marks_few bs m in omega arith
