@@ -1,5 +1,5 @@
 // Items of the input, each with a four-byte length in front.
-ghost use Rattle.std.specs.Prelude.{◌≡◌, length, IfOk};
+ghost use Rattle.std.specs.Prelude.{◌≤◌, length, IfOk};
 ghost use Rattle.items.specs.Items.{Within};
 
 use place::word_at;
@@ -17,15 +17,20 @@ pub enum Item {
     Whole(usize),
 }
 
-// Fills the bytes, or tells that the input ended before, which is no error here; `?` would hand on both.
-fn is_filled<R: Read>(input: &mut R, bytes: &mut [u8]) -> io::Result<bool>
-    ensures { length bytes.new ≡ length bytes.old }
+// Reads until the buffer is full or the input ends, and tells how many bytes came. By hand: the library's `read_exact` tells
+// an end as it tells an error of that name, and tries again what was interrupted, where each error of the reader is told here.
+fn fill<R: Read>(input: &mut R, buffer: &mut [u8]) -> io::Result<usize>
+    ensures { IfOk result (λ n. n ≤ length buffer.new) }
 {
-    match input.read_exact(bytes) {
-        Ok(()) => Ok(true),
-        Err(error) if error.kind() == io::ErrorKind::UnexpectedEof => Ok(false),
-        Err(error) => Err(error),
+    let mut at = 0;
+    while at < buffer.len() {
+        let count = input.read(&mut buffer[at..])?;
+        if count == 0 {
+            return Ok(at);
+        }
+        at += count;
     }
+    Ok(at)
 }
 
 pub fn next_item<R: Read>(input: &mut R, buffer: &mut [u8]) -> io::Result<Item>
@@ -34,14 +39,12 @@ pub fn next_item<R: Read>(input: &mut R, buffer: &mut [u8]) -> io::Result<Item>
     if buffer.len() < 4 {
         return Ok(Item::Broken);
     }
-    if input.read(&mut buffer[0..1])? == 0 {
-        return Ok(Item::Ended);
-    }
-    if !is_filled(input, &mut buffer[1..4])? {
-        return Ok(Item::Broken);
+    let got = fill(input, &mut buffer[0..4])?;
+    if got < 4 {
+        return Ok(if got == 0 { Item::Ended } else { Item::Broken });
     }
     let size = word_at(buffer, 0) as usize + 4;
-    if size > buffer.len() || !is_filled(input, &mut buffer[4..size])? {
+    if size > buffer.len() || fill(input, &mut buffer[4..size])? < size - 4 {
         return Ok(Item::Broken);
     }
     Ok(Item::Whole(size))
