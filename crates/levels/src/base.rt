@@ -17,7 +17,7 @@ pub fn read_base<R: Read>(
     buffer: &mut [u8],
     workspace: &mut Workspace,
 ) -> io::Result<Result<(Running, Counts), Fault>>
-    ensures { IfOk result (λ r. BaseRead workspace.old buffer.new r) }
+    ensures { IfOk result (λ r. BaseRead workspace.old buffer.new workspace.new r) }
 {
     match next_item(input, buffer)? {
         Item::Whole(size) => Ok(workspace.start(&buffer[0..size])),

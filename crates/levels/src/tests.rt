@@ -34,6 +34,8 @@ const PAIR: &[u8; 152] = b"\0\0\0\x94\x01\x01\0\0\0\x07\0\0\0\x08\
 // What is printed more than once.
 const CUT_SHORT: &str = "REFUSED 0 10 2 0\nTOTAL 0 0 0\n";
 
+const BAD_CORNERS: &str = "REFUSED 0 16 3 0\nTOTAL 0 0 0\n";
+
 const UNKNOWN_VERSION: &str = "REFUSED 0 11 2 4\nTOTAL 0 0 0\n";
 
 const BLOCK_ALONE: &str = "BASE 4 6 4\nTOTAL 0 0 0\n";
@@ -80,6 +82,9 @@ fn bases(rt: HostRuntime) -> Result<(), Fail> {
     assert!(rt; prints(&rt, b"\0\0\0", b"", CUT_SHORT)?);
     assert!(rt; prints(&rt, &BLOCK[..85], b"", CUT_SHORT)?);
     assert!(rt; prints(&rt, BLOCK, b"", BLOCK_ALONE)?);
+    let cornerless = head(82, 4, 4);
+    assert!(rt; prints(&rt, front(&cornerless, 85), b"", CUT_SHORT)?);
+    assert!(rt; prints(&rt, front(&cornerless, 86), b"", BAD_CORNERS)?);
     assert!(rt; prints(&rt, PAIR, b"", "REFUSED 0 19 3 0\nTOTAL 0 0 0\n")?);
     let mut another = *BLOCK;
     another[4] = 2;
@@ -106,14 +111,8 @@ fn limits_of_bases(rt: HostRuntime) -> Result<(), Fail> {
     let triangles = head(7702, 256, 513);
     assert!(rt; prints(&rt, &triangles, b"", "REFUSED 0 6 1 0\nTOTAL 0 0 0\n")?);
     let full = head(7690, 256, 512);
-    assert!(rt;
-        prints(
-            &rt,
-            front(&full, 7694),
-            b"",
-            "REFUSED 0 16 3 0\nTOTAL 0 0 0\n"
-        )?
-    );
+    assert!(rt; prints(&rt, front(&full, 7694), b"", BAD_CORNERS)?);
+    assert!(rt; prints(&rt, &full, b"", BAD_CORNERS)?);
     Ok(())
 }
 
