@@ -5,3 +5,4 @@ pub mod Joins
 pub mod Rows
 pub mod Written
 pub mod Back
+pub mod Within

@@ -1,15 +1,16 @@
 // A sheet as a reading surface: each vertex is its own parent.
-ghost use Rattle.std.specs.Prelude.{◌≡◌, ◌+◌, ◌^◌, ◌<◌, ◌≤◌, length, is_some};
+ghost use Rattle.std.specs.Prelude.{◌≡◌, ◌+◌, ◌<◌, ◌≤◌, Some, length, is_some};
+ghost use Rattle.std.specs.Option.{option_map};
 ghost use Rattle.place.specs.Words.{word};
 ghost use Rattle.mesh.specs.Triangles.{tri_of};
 ghost use Rattle.mesh.specs.Sides.{corner_of};
-ghost use Rattle.sheet.specs.Content.{triangle_from, triangle_in, place_read, sheet_mesh};
+ghost use Rattle.sheet.specs.Content.{triangle_in, place_read, sheet_mesh};
 ghost use Rattle.sheet.specs.Bounds.{sheet_limited};
 
 use crate::checks::HEAD;
 use crate::sheet::Sheet;
 use mesh::{ReadingSurface, Triangle};
-use place::{Place, rest_of, word_at};
+use place::Place;
 
 // The number that the four bytes from `at` on stand for, which are there.
 fn word_within(bytes: &[u8], at: usize) -> u32
@@ -19,48 +20,37 @@ fn word_within(bytes: &[u8], at: usize) -> u32
     u32::from_be_bytes([bytes[at], bytes[at + 1], bytes[at + 2], bytes[at + 3]])
 }
 
-// The triangle from `at` on where some of its bytes are not there.
-#[cold]
-fn triangle_cut_short(bytes: &[u8], at: usize) -> Triangle
-    requires { at + 8 < 2 ^ 64 }
-    ensures { tri_of result ≡ triangle_from bytes.now at }
-{
-    Triangle {
-        a: word_at(bytes, at),
-        b: word_at(bytes, at + 4),
-        c: word_at(bytes, at + 8),
-    }
-}
-
 impl<'a, P: Place> Sheet<'a, P> {
-    // What the bytes of place v read as.
+    // What the bytes of place v read as. One test does for all of them, and no vertex of the sheet fails it.
     pub(crate) fn place_read(&self, v: u32) -> Option<P>
-        ensures { result ≡ place_read P.Place.kind self.now.bytes.now v }
+        ensures { v < self.now.totals.vertices → result ≡ place_read P.Place.kind self.now.bytes.now v }
     {
         let at = HEAD + v as usize * P::WIDTH;
-        P::read(rest_of(self.bytes, at))
+        P::read(self.bytes.get(at..at + P::WIDTH)?)
     }
 
-    // The triangle that the twelve bytes of triangle t stand for. One test does for all of them where they are there.
+    // The triangle that the twelve bytes of triangle t stand for. One test does for all of them, and none of the sheet's
+    // triangles fails it.
     #[inline(always)]
-    fn triangle_in(&self, t: u32) -> Triangle
-        ensures { tri_of result ≡ triangle_in P.Place.kind.width self.now.bytes.now t }
+    fn triangle_read(&self, t: u32) -> Option<Triangle>
+        ensures { t < self.now.totals.triangles → option_map tri_of result ≡ Some (triangle_in P.Place.kind.width self.now.bytes.now t) }
     {
         let at = HEAD + self.totals.vertices as usize * P::WIDTH + t as usize * 12;
         if self.bytes.len() < at + 12 {
-            return triangle_cut_short(self.bytes, at);
+            return None;
         }
-        Triangle {
+        Some(Triangle {
             a: word_within(self.bytes, at),
             b: word_within(self.bytes, at + 4),
             c: word_within(self.bytes, at + 8),
-        }
+        })
     }
 
     fn has_side(&self, t: u32, u: u32, v: u32) -> bool
-        ensures { result ≡ is_some (corner_of u v (triangle_in P.Place.kind.width self.now.bytes.now t)) }
+        ensures { t < self.now.totals.triangles → result ≡ is_some (corner_of u v (triangle_in P.Place.kind.width self.now.bytes.now t)) }
     {
-        self.triangle_in(t).side_corner(u, v).is_some()
+        self.triangle_read(t)
+            .is_some_and(|triangle| triangle.side_corner(u, v).is_some())
     }
 }
 
@@ -80,7 +70,7 @@ impl<'a, P: Place> ReadingSurface for Sheet<'a, P> {
     }
 
     fn triangle(&self, t: u32) -> Option<Triangle> {
-        (t < self.totals.triangles).then_some(self.triangle_in(t))
+        (t < self.totals.triangles).then_some(self.triangle_read(t))?
     }
 
     fn place(&self, v: u32) -> Option<P> {
