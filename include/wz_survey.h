@@ -13,7 +13,7 @@
  * 9 if out_len is under 16, else the first of 10 to 19 that applies.
  *
  * A null pointer is allowed where its length is 0. The two buffers must not
- * overlap. The call takes about 1.4 MB of stack on more than 64 triangles.
+ * overlap. The call takes about 1.4 MB of stack on more than 100 triangles.
  */
 uint32_t wz_survey_sheet(const uint8_t *sheet, size_t sheet_len,
                          uint8_t *out, size_t out_len);

@@ -11,7 +11,7 @@ use mesh::{MAX_TRIANGLES, MAX_VERTICES, ReadingSurface, Totals, copy_surface};
 use stores::{ChainStore, ChainTriangle, ChainVertex};
 
 // Up to so many triangles, searching takes no longer than making the copy, whose tables are those of the largest mesh.
-const FEW_TRIANGLES: u32 = 64;
+const FEW_TRIANGLES: u32 = 100;
 
 // As `survey`, for a surface whose side question is a search.
 pub fn survey_indexed<S: ReadingSurface>(s: &S) -> Result<Counts, Fault>
