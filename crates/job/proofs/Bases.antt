@@ -42,10 +42,6 @@ empty_start m e =
     let p = and_parts (eqb (vertex_total m) 0) (eqb (triangle_total m) 0) e in
     ap (λ ts. mesh_of ts m.vertices) (nil_from_length m.triangles (eqb-true _ 0 p.1)) ∙ ap (λ vs. mesh_of [] vs) (nil_from_length m.vertices (eqb-true _ 0 p.0))
 
--- the capacities that a store tells are its room
-pub within_room : {P D : Type 0} (k : Kind P D) (bs xs : List ℕ) (v vr t tr : ℕ) → v ≡ vr → t ≡ tr → Ok xs ≡ opened (sheet_fault_within k v t bs) bs → Ok xs ≡ opened (sheet_fault_within k vr tr bs) bs
-within_room k bs xs v vr t tr e i h = h ∙ (ap (λ (n : ℕ). opened (sheet_fault_within k n t bs) bs) e ∙ ap (λ (n : ℕ). opened (sheet_fault_within k vr n bs) bs) i)
-
 module _ {P D : Type 0} (k : Kind P D) (vr tr : ℕ) (m : Mesh P) (bs : List ℕ) where
   past_store : is_empty m ≡ true → base_fault k vr tr m bs ≡ or_else (sheet_fault_within k vr tr bs) (survey_fault (vertex_total (sheet_mesh k bs)) (sheet_mesh k bs).triangles)
   past_store e = ap (λ (b : Bool). or_else (cond b None (Some StoreNotEmpty)) (or_else (sheet_fault_within k vr tr bs) (survey_fault (vertex_total (sheet_mesh k bs)) (sheet_mesh k bs).triangles))) e

@@ -1,5 +1,5 @@
 use Rattle.std.proofs.Common.{sym, ◌∙◌, rules}
-use Rattle.job.proofs.Bases.{within_room, accepted, accepted_answer, accepted_copy, accepted_even, refused_survey, refused_answer, refused_mesh}
+use Rattle.job.proofs.Bases.{accepted, accepted_answer, accepted_copy, accepted_even, refused_survey, refused_answer, refused_mesh}
 use Rattle.job.proofs.basing.take_base.Goals as goal
 
 pub returns : goal.returns
@@ -12,7 +12,7 @@ returns g c =
     let m = g.S.ReadingSurface.mesh s in
     let e = sym c.is_empty.ensures ∙ c.if-not-is_empty.false in
     let xs = c.in_ok-sheet.sheet.bytes.now in
-    let i = within_room k bs xs c.room.result.vertices vr c.room.result.triangles tr c.room.ensures.vertices c.room.ensures.triangles c.in_ok-sheet.ensures in
+    let i = c.in_ok-sheet.ensures in
     let n = c.in_ok-survey_indexed.field-0 in
     let a = accepted k vr tr m bs xs n i c.in_ok-survey_indexed.ensures in
     record {
@@ -32,7 +32,7 @@ returns-in_err-survey_indexed-clause-answer g c =
     let m = g.S.ReadingSurface.mesh s in
     let e = sym c.is_empty.ensures ∙ c.if-not-is_empty.false in
     let xs = c.in_ok-sheet.sheet.bytes.now in
-    let i = within_room k bs xs c.room.result.vertices vr c.room.result.triangles tr c.room.ensures.vertices c.room.ensures.triangles c.in_ok-sheet.ensures in
+    let i = c.in_ok-sheet.ensures in
     let f = c.in_err-survey_indexed.field-0.0 in
     let r = refused_survey k vr tr m bs xs f e i c.in_err-survey_indexed.ensures in
     let a = refused_answer k vr tr m bs f r in search rules
@@ -47,7 +47,7 @@ returns-in_err-survey_indexed-clause-mesh g c =
     let m = g.S.ReadingSurface.mesh s in
     let e = sym c.is_empty.ensures ∙ c.if-not-is_empty.false in
     let xs = c.in_ok-sheet.sheet.bytes.now in
-    let i = within_room k bs xs c.room.result.vertices vr c.room.result.triangles tr c.room.ensures.vertices c.room.ensures.triangles c.in_ok-sheet.ensures in
+    let i = c.in_ok-sheet.ensures in
     let f = c.in_err-survey_indexed.field-0.0 in
     let r = refused_survey k vr tr m bs xs f e i c.in_err-survey_indexed.ensures in
     refused_mesh k vr tr m bs f r
